@@ -125,11 +125,11 @@ module _ (outputs : List ℕ) (w s : List Right) (goals : Nodes) (hold : Hold) (
         name = refl;
         value = refl;
       } where
-    on : (info : CellInfo) → info.consumer ≡ 0
-        → ((info.consumer ≡ 0) × (among outputs info.variable ≡ true)) ⊎ ((info.producer < info.consumer) × ((m : Node) × ((nth 1 info.consumer goals ≡ Some m) × (in_node m info.variable ≡ true))))
-        → among outputs info.variable ≡ true
-    on info e (inl h) = h.1
-    on info e (inr h) = let l = h.0 in absurd (omega (arith, l, e))
+        on : (info : CellInfo) → info.consumer ≡ 0
+            → ((info.consumer ≡ 0) × (among outputs info.variable ≡ true)) ⊎ ((info.producer < info.consumer) × ((m : Node) × ((nth 1 info.consumer goals ≡ Some m) × (in_node m info.variable ≡ true))))
+            → among outputs info.variable ≡ true
+        on info e (inl h) = h.1
+        on info e (inr h) = let l = h.0 in absurd (omega (arith, l, e))
 
   pub own_of : (r : HeldWait) → Member r (own_waits 0 given own_cells) → Own r.variable r.cell r.value
   own_of r h =
@@ -154,13 +154,13 @@ module _ (outputs : List ℕ) (w s : List Right) (goals : Nodes) (hold : Hold) (
         (subst (λ l. AreDistinct l) (sym (own_wait_variables 0 given own_cells ∙ same_variables (λ v p c. c == 0) hold.next infos)) (waited_distinct 1 0 outputs goals distinct))
         (distinct_passing variable wait_stays hold.waits names.wait_variables)
         (λ x h k. apart x (numbered variable x (own_waits 0 given own_cells) h) (numbered variable x (waits_kept all_moves hold.waits) k))) where
-      variable : HeldWait → ℕ
-      variable right = right.variable
+          variable : HeldWait → ℕ
+          variable right = right.variable
 
-      apart : (x : ℕ) → (r : HeldWait) × (Member r (own_waits 0 given own_cells) × (r.variable ≡ x)) → (r : HeldWait) × (Member r (waits_kept all_moves hold.waits) × (r.variable ≡ x)) → ⊥
-      apart x p q =
-          let e = held_owed q.0 (kept_of q.0 q.1.0).0 in
-          not_output x (subst (λ z. among outputs z ≡ true) p.1.1 (own_of p.0 p.1.0).output) (subst (λ z. b z ≡ true) q.1.1 (fit.known q.0.variable q.0.cell q.0.value e))
+          apart : (x : ℕ) → (r : HeldWait) × (Member r (own_waits 0 given own_cells) × (r.variable ≡ x)) → (r : HeldWait) × (Member r (waits_kept all_moves hold.waits) × (r.variable ≡ x)) → ⊥
+          apart x p q =
+              let e = held_owed q.0 (kept_of q.0 q.1.0).0 in
+              not_output x (subst (λ z. among outputs z ≡ true) p.1.1 (own_of p.0 p.1.0).output) (subst (λ z. b z ≡ true) q.1.1 (fit.known q.0.variable q.0.cell q.0.value e))
 
     pub forked_cells : AreDistinct (wait_cells_of forked.waits)
     forked_cells = subst (λ l. AreDistinct l) (sym (map_both cell (own_waits 0 given own_cells) (waits_kept all_moves hold.waits)))
@@ -168,16 +168,16 @@ module _ (outputs : List ℕ) (w s : List Right) (goals : Nodes) (hold : Hold) (
         (subst (λ l. AreDistinct l) (sym (own_wait_cells 0 given own_cells)) (distinct_passing (λ (z : NamedCell). z.cell) is_awaited own_cells (names_distinct hold.next infos)))
         (distinct_passing cell wait_stays hold.waits names.wait_cells)
         (λ c h k. apart c (numbered cell c (own_waits 0 given own_cells) h) (numbered cell c (waits_kept all_moves hold.waits) k))) where
-      cell : HeldWait → ℕ
-      cell right = right.cell
+          cell : HeldWait → ℕ
+          cell right = right.cell
 
-      apart : (c : ℕ) → (r : HeldWait) × (Member r (own_waits 0 given own_cells) × (r.cell ≡ c)) → (r : HeldWait) × (Member r (waits_kept all_moves hold.waits) × (r.cell ≡ c)) → ⊥
-      apart c p q =
-          let l = (own_of p.0 p.1.0).low in
-          let e = p.1.1 in
-          let m = names.low_owed q.0.variable q.0.cell q.0.value (held_owed q.0 (kept_of q.0 q.1.0).0) in
-          let f = q.1.1 in
-          absurd (omega (arith, l, e, m, f))
+          apart : (c : ℕ) → (r : HeldWait) × (Member r (own_waits 0 given own_cells) × (r.cell ≡ c)) → (r : HeldWait) × (Member r (waits_kept all_moves hold.waits) × (r.cell ≡ c)) → ⊥
+          apart c p q =
+              let l = (own_of p.0 p.1.0).low in
+              let e = p.1.1 in
+              let m = names.low_owed q.0.variable q.0.cell q.0.value (held_owed q.0 (kept_of q.0 q.1.0).0) in
+              let f = q.1.1 in
+              absurd (omega (arith, l, e, m, f))
 
     same_right : (P : ℕ → ℕ → Option Value → Type 0) (r : HeldWait) (x c : ℕ) (o : Option Value) → r.variable ≡ x → r.cell ≡ c → r.value ≡ o → P r.variable r.cell r.value → P x c o
     same_right P r x c o p q u h = subst (λ z. P x c z) u (subst (λ z. P x z r.value) q (subst (λ z. P z r.cell r.value) p h))
@@ -187,25 +187,27 @@ module _ (outputs : List ℕ) (w s : List Right) (goals : Nodes) (hold : Hold) (
     owed_cases x c o e =
         let q = wait_found x e.right forked.waits e.found in
         on (member_either e.right (own_waits 0 given own_cells) (waits_kept all_moves hold.waits) q.0) q.1 where
-      on : Member e.right (own_waits 0 given own_cells) ⊎ Member e.right (waits_kept all_moves hold.waits) → e.right.variable ≡ x → Own x c o ⊎ (Owed hold x c o × (child_for false x all_moves ≡ None))
-      on (inl h) p = inl (same_right Own e.right x c o p e.at e.gives (own_of e.right h))
-      on (inr h) p =
-          let k = kept_of e.right h in
-          inr (same_right (Owed hold) e.right x c o p e.at e.gives (held_owed e.right k.0), ap (λ z. child_for false z all_moves) (sym p) ∙ k.1)
+          on : Member e.right (own_waits 0 given own_cells) ⊎ Member e.right (waits_kept all_moves hold.waits) → e.right.variable ≡ x → Own x c o ⊎ (Owed hold x c o × (child_for false x all_moves ≡ None))
+          on (inl h) p = inl (same_right Own e.right x c o p e.at e.gives (own_of e.right h))
+          on (inr h) p =
+              let k = kept_of e.right h in
+              inr (same_right (Owed hold) e.right x c o p e.at e.gives (held_owed e.right k.0), ap (λ z. child_for false z all_moves) (sym p) ∙ k.1)
 
     pub own_owed : (x : ℕ) → among outputs x ≡ true → (c : ℕ) × Owed forked x c (value_given (gift_at c given))
     own_owed x h =
         let m = maker_of 1 x goals (covered x h) in
         let n = name_of hold.next infos (record { variable = x; producer = m.0; consumer = 0 }) (output_cell outputs 1 m.0 x m.1.0 goals m.1.1.0 m.1.1.1 h) in
-        let one = n.one in
-        (one.cell, record {
-          right = own_wait one;
-          found = finds_wait x (own_wait one) forked.waits forked_variables
-              (member_left (own_wait one) (own_waits 0 given own_cells) (waits_kept all_moves hold.waits)
-              (is_made own_wait one (filter is_awaited own_cells) (passes is_awaited one own_cells n.there (subst (λ z. (z == 0) ≡ true) (sym n.consumer) refl)))) n.variable;
-          at = refl;
-          gives = refl;
-        })
+        let one = n.one in (
+          one.cell,
+          record {
+            right = own_wait one;
+            found = finds_wait x (own_wait one) forked.waits forked_variables
+                (member_left (own_wait one) (own_waits 0 given own_cells) (waits_kept all_moves hold.waits)
+                (is_made own_wait one (filter is_awaited own_cells) (passes is_awaited one own_cells n.there (subst (λ z. (z == 0) ≡ true) (sym n.consumer) refl)))) n.variable;
+            at = refl;
+            gives = refl;
+          },
+        )
 
     pub kept_owed : (x c : ℕ) (o : Option Value) → Owed hold x c o → child_for false x all_moves ≡ None → Owed forked x c o
     kept_owed x c o e k =
@@ -378,10 +380,10 @@ module _ (outputs : List ℕ) (w s : List Right) (goals : Nodes) (hold : Hold) (
             | inl q ↦ let m = q.low in absurd (omega (arith, l, m))
             | inr q ↦ not_output x (rights_among outputs x i) (fit.known x c o q.0)
           ]) where
-        not_moved : has c (moved false (moves_from all_moves hold)) ≡ true → ⊥
-        not_moved i =
-            let goes_on : HeldWait → Bool = λ right. goes (child_for false right.variable all_moves) in
-            let r = numbered (λ (right : HeldWait). right.cell) c (filter goes_on hold.waits) (subst (λ z. has c z ≡ true) (waits_moved all_moves hold) i) in
-            let q = passing goes_on r.0 hold.waits r.1.0 in
-            let k = goes_some (child_for false r.0.variable all_moves) q.1 in
-            n r.0.variable r.0.value (wait_child outputs w s goals r.0.variable k.0 k.1).0 (subst (λ z. Owed hold r.0.variable z r.0.value) r.1.1 (held_owed r.0 q.0))
+            not_moved : has c (moved false (moves_from all_moves hold)) ≡ true → ⊥
+            not_moved i =
+                let goes_on : HeldWait → Bool = λ right. goes (child_for false right.variable all_moves) in
+                let r = numbered (λ (right : HeldWait). right.cell) c (filter goes_on hold.waits) (subst (λ z. has c z ≡ true) (waits_moved all_moves hold) i) in
+                let q = passing goes_on r.0 hold.waits r.1.0 in
+                let k = goes_some (child_for false r.0.variable all_moves) q.1 in
+                n r.0.variable r.0.value (wait_child outputs w s goals r.0.variable k.0 k.1).0 (subst (λ z. Owed hold r.0.variable z r.0.value) r.1.1 (held_owed r.0 q.0))

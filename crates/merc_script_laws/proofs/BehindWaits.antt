@@ -83,7 +83,7 @@ left_more r w ws d =
     ap (filter (not_waited w)) (without_those r.variable ws d)
     ∙ filter_twice (not_waited w) (λ (right : HeldWait). not (right.variable == r.variable)) ws
     ∙ filter_same (λ (right : HeldWait). not (right.variable == r.variable) && not_waited w right) (not_waited (r ∷ w)) ws
-      (λ right. neither (right.variable == r.variable) (are_for w right.variable) ∙ ap (λ (b : Bool). not (b || are_for w right.variable)) (equal_turned right.variable r.variable))
+    (λ right. neither (right.variable == r.variable) (are_for w right.variable) ∙ ap (λ (b : Bool). not (b || are_for w right.variable)) (equal_turned right.variable r.variable))
 
 nothing_waited : (ws : List HeldWait) → filter (not_waited []) ws ≡ ws
 nothing_waited ws = filter_all (not_waited []) ws (λ right m. refl)
@@ -142,7 +142,7 @@ module _ (plan : Plan) (program : Program) (call : Procedure → Hold → Branch
     where
       on : (c : ℕ) (o : Option Value) → Owed hold r.variable c o
           → ((v : Value) → Owed hold r.variable c (Some v) → (p : List ℕ) → ((x d : ℕ) (o : Option Value) → are_for w x ≡ true → Owed (taken hold r.variable v) x d o → (has d p ≡ true) × (next ≤ d))
-            → Quiet next p (waiting plan program call span w [] (taken hold r.variable v)))
+          → Quiet next p (waiting plan program call span w [] (taken hold r.variable v)))
           → Quiet next pending (waiting plan program call span (r ∷ w) [] hold)
       on c None e rest =
           let k = i r.variable c None (right_first r w) e in
@@ -150,11 +150,17 @@ module _ (plan : Plan) (program : Program) (call : Procedure → Hold → Branch
       on c (Some v) e rest =
           let k = i r.variable c (Some v) (right_first r w) e in
           let q = taken_waits (λ x. Unit {0}) r c v hold can e in
-          subst (λ z. Quiet next pending z) (sym (wait_answered (λ inner. waiting plan program call span w [] inner) hold r.variable c v e)) (k.0, (k.1, rest v e (without (c ∷ []) pending)
-            (λ x f o h u.
-            let old = q.moves.old x f o u in
-            let j = i x f o (right_rest r w x h) old in
-            (minus_keeps f (c ∷ []) pending (not_one f c (λ s. clash (listed w r.variable (subst (λ y. are_for w y ≡ true) (sym (can.apart r.variable x c (Some v) o e (subst (λ z. Owed hold x z o) s old))) h)) d.0)) j.0, j.1))))
+          subst (λ z. Quiet next pending z) (sym (wait_answered (λ inner. waiting plan program call span w [] inner) hold r.variable c v e)) (
+            k.0,
+            (
+              k.1,
+              rest v e (without (c ∷ []) pending)
+                  (λ x f o h u.
+                  let old = q.moves.old x f o u in
+                  let j = i x f o (right_rest r w x h) old in
+                  (minus_keeps f (c ∷ []) pending (not_one f c (λ s. clash (listed w r.variable (subst (λ y. are_for w y ≡ true) (sym (can.apart r.variable x c (Some v) o e (subst (λ z. Owed hold x z o) s old))) h)) d.0)) j.0, j.1)),
+            ),
+          )
 
   -- the waits for the outputs of a parallel conjunction
   abbrev pub output_waits : List ℕ → Hold → BranchCourse
@@ -209,9 +215,9 @@ module _ (plan : Plan) (program : Program) (call : Procedure → Hold → Branch
         filter_both test own kept
         ∙ ap (λ l. l ++ filter test kept) (filter_none test own (λ r m. ap not (among_rights outputs r.variable (own_of outputs w s goals hold given r m).output)))
         ∙ filter_all test kept (λ r m.
-          let e = held_owed outputs w s goals hold given b here fit names distinct covered free empty r (kept_of outputs w s goals hold given r m).0 in
-          is_not (are_for (map (right_to 0) outputs) r.variable) (not_for (map (right_to 0) outputs) r.variable
-          (λ h. not_output outputs w s goals hold given b here fit names distinct covered free empty r.variable (rights_among outputs r.variable h) (fit.known r.variable r.cell r.value e))))
+        let e = held_owed outputs w s goals hold given b here fit names distinct covered free empty r (kept_of outputs w s goals hold given r m).0 in
+        is_not (are_for (map (right_to 0) outputs) r.variable) (not_for (map (right_to 0) outputs) r.variable
+        (λ h. not_output outputs w s goals hold given b here fit names distinct covered free empty r.variable (rights_among outputs r.variable h) (fit.known r.variable r.cell r.value e))))
 
     pub behind_along : (full : Env) → ((x : ℕ) (v : Value) → Here hold x v → value_at full x ≡ Some v)
         → ((one : NamedCell) → Member one cells → one.consumer ≡ 0 → (v : Value) × ((gift_at one.cell given ≡ Some (Some v)) × (value_at full one.variable ≡ Some v))) → Led
