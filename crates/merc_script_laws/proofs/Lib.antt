@@ -24,3 +24,4 @@ pub mod Cells
 pub mod Sites
 pub mod SiteMoves
 pub mod Counts
+pub mod Static
