@@ -25,3 +25,4 @@ pub mod Sites
 pub mod SiteMoves
 pub mod Counts
 pub mod Static
+pub mod Placed
