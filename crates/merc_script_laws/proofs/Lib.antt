@@ -26,3 +26,4 @@ pub mod SiteMoves
 pub mod Counts
 pub mod Static
 pub mod Placed
+pub mod Kids
