@@ -27,3 +27,4 @@ pub mod Counts
 pub mod Static
 pub mod Placed
 pub mod Kids
+pub mod Conjuncts
