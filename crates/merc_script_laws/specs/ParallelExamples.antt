@@ -1,5 +1,5 @@
 -- Worked examples of outputs that parts have, and of the number of conjuncts.
-use Rattle.std.specs.Prelude.{◌≡◌, ◌≤◌, ◌⊎◌, ℕ, zero, suc, pos, true, false, List, [], ◌∷◌, Some, None, refl}
+use Rattle.std.specs.Prelude.{◌≡◌, ◌≤◌, ◌⊎◌, ℕ, pos, true, false, List, [], ◌∷◌, Some, None, refl}
 use Rattle.std.proofs.Common.{arith, inl, inr}
 use Rattle.merc_base.specs.declared.category.Category.TheVariants.{Det, Failure}
 use Rattle.merc_base.specs.declared.place.Span.{Span}
@@ -8,7 +8,6 @@ use Rattle.merc_goal_tree.specs.declared.goal.Symbol.TheVariants.{Integer}
 use Rattle.merc_graded_tree.specs.declared.basic.BasicGoal.TheVariants.{Fail, Build}
 use Rattle.merc_graded_tree.specs.declared.entries.Running.TheVariants.{Sequential, Parallel}
 use Rattle.merc_graded_tree.specs.Nodes.{Node, node, Basic, Conjunction, Disjunction, Negation, Nodes, no_nodes, more_nodes, nodes_of}
-use Rattle.merc_order.specs.Bound.{among}
 use Rattle.merc_script_laws.specs.Parallel.{all_outputs, ArmHas, KeepsOutputs, HasFew}
 
 abbrev nowhere : Span
@@ -38,15 +37,9 @@ all_outputs-example = refl
 all_outputs-not : all_outputs (nodes_of (is_one 3 ∷ [])) ≡ [] → ⊥
 all_outputs-not none = cc
 
--- an output that one of the goals binds, and one that none does
-keeps-example : KeepsOutputs no_modes (both (3 ∷ []) (is_one 3 ∷ is_one 4 ∷ []))
-keeps-example = ((tt, (tt, tt)), (λ variable is. only_three variable is)) where
-  only_three : (variable : ℕ) → among (3 ∷ []) variable ≡ true → among (3 ∷ 4 ∷ []) variable ≡ true
-  only_three zero is = absurd cc
-  only_three (suc zero) is = absurd cc
-  only_three (suc (suc zero)) is = absurd cc
-  only_three (suc (suc (suc zero))) is = refl
-  only_three (suc (suc (suc (suc variable)))) is = absurd cc
+-- outputs that the goals bind, and one that none does
+keeps-example : KeepsOutputs no_modes (both (3 ∷ 4 ∷ []) (is_one 3 ∷ is_one 4 ∷ []))
+keeps-example = ((tt, (tt, tt)), (λ variable is. is))
 
 keeps-not : KeepsOutputs no_modes (both (5 ∷ []) (is_one 3 ∷ [])) → ⊥
 keeps-not keeps = let wrong = keeps.1 5 refl in cc
