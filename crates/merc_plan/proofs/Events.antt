@@ -1,8 +1,8 @@
 -- The landed combinators of traces, and those of traces in the form of courses.
-use Rattle.std.proofs.Common.{◌≡◌, ℕ, zero, suc, Bool, true, false, refl, ap, sym, ◌∙◌}
+use Rattle.std.proofs.Common.{◌≡◌, Bool, true, false, refl, ap, ◌∙◌}
 use Rattle.merc_meaning.specs.Trace.{Env, Trace, Ends, Tick as TraceTick, Answer as TraceAnswer, Done as TraceDone, Raised as TraceRaised, TooDeep as TraceTooDeep, after as t_after, each as t_each, taken_back as t_taken, first_alone as t_first, choose as t_choose, negated as t_negated}
 use Rattle.merc_meaning.specs.Runs.{once_if as t_once}
-use Rattle.merc_plan.proofs.Flat.{Flat, Done, Halts, Tick, Answer, after, each, taken, first_alone, choose, negated, once_if, events}
+use Rattle.merc_plan.proofs.Flat.{Tick, Answer, after, each, taken, first_alone, choose, negated, once_if, events}
 
 pub events_after : (t u : Trace) → events (t_after t u) ≡ after (events t) (events u)
 events_after (Ends TraceDone) u = refl

@@ -1,9 +1,8 @@
 -- The flat course of what the combinators make.
-use Rattle.std.proofs.Common.{◌≡◌, ℕ, zero, suc, ◌+◌, Bool, true, false, List, [], ◌∷◌, refl, ap, sym, subst, ◌∙◌, arith}
-use Rattle.std.specs.Prelude.{⊤}
+use Rattle.std.proofs.Common.{◌≡◌, Bool, true, false, refl, ap, sym, ◌∙◌}
 use Rattle.merc_plan.specs.Branch.{Hold, BranchCourse, Over, Breaks, Steps, Finds, Awaits, Gives, Forks, BranchCourses, no_branches, more_branches, after as c_after, each as c_each, taken_back as c_taken, first_alone as c_first, choose as c_choose, negated as c_negated}
 use Rattle.merc_plan.specs.Branches.{once_if as c_once}
-use Rattle.merc_plan.proofs.Flat.{Flat, Done, Halts, Tick, Answer, Det, Answers, NotDone, Each, Like, behind, after, each, taken, first_alone, choose, negated, once_if}
+use Rattle.merc_plan.proofs.Flat.{Flat, Done, Halts, Tick, Answer, Det, Answers, Each, behind, after, each, taken, first_alone, choose, negated, once_if}
 use Rattle.merc_plan.proofs.Judging.{flat, flats, Sure, AllSure, AllAnswer}
 
 -- each combinator goes past a det trace

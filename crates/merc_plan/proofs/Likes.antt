@@ -1,6 +1,5 @@
 -- Traces that are alike, and what the combinators make of them.
-use Rattle.std.proofs.Common.{◌≡◌, ℕ, zero, suc, ◌+◌, Bool, true, false, List, [], ◌∷◌, refl, ap, sym, subst, ◌∙◌, arith}
-use Rattle.std.specs.Prelude.{⊤}
+use Rattle.std.proofs.Common.{◌≡◌, ℕ, zero, suc, Bool, true, false, refl, ap, sym, subst, ◌∙◌}
 use Rattle.merc_plan.specs.Branch.{Halt, Raised, TooDeep, Starving}
 use Rattle.merc_plan.proofs.Flat.{Flat, Done, Halts, Tick, Answer, Det, Answers, NotDone, Each, Like, behind, after, each, taken, first_alone, choose, negated, once_if, seen}
 

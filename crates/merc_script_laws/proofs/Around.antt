@@ -1,8 +1,8 @@
 -- Waits before a goal, and signals behind it.
-use Rattle.std.proofs.Common.{◌≡◌, ◌⊎◌, inl, inr, ℕ, zero, suc, ◌<◌, ◌+◌, Bool, true, false, not, ◌==◌, nat_eq, if◌then◌else◌, List, [], ◌∷◌, ◌++◌, length, map, Option, Some, None, refl, ap, sym, subst, ◌∙◌}
+use Rattle.std.proofs.Common.{◌≡◌, ◌⊎◌, inl, inr, ℕ, suc, ◌+◌, Bool, true, false, ◌==◌, nat_eq, List, [], ◌∷◌, ◌++◌, length, map, Option, Some, None, refl, ap, sym, subst, ◌∙◌}
 use Rattle.merc_base.specs.declared.place.Span.{Span}
 use Rattle.merc_graded_tree.specs.declared.basic.Procedure.{Procedure}
-use Rattle.merc_graded_tree.specs.Nodes.{Node, Nodes, nodes_of}
+use Rattle.merc_graded_tree.specs.Nodes.{Node, nodes_of}
 use Rattle.merc_order.specs.Bound.{Bound}
 use Rattle.merc_order_laws.proofs.Facts.{clash, either_way}
 use Rattle.merc_value.specs.Value.{Value}
@@ -13,16 +13,16 @@ use Rattle.merc_core.specs.Rights.{has, without}
 use Rattle.merc_core.specs.WellFormed.{AreDistinct}
 use Rattle.merc_par_split.specs.Rights.{Right, wait_at, signal_at}
 use Rattle.merc_par_split.specs.Sites.{are_for}
-use Rattle.merc_plan.specs.Branch.{HeldWait, HeldSignal, Hold, Gift, gift_at, BranchCourse, Over, Breaks, Steps, Finds, Awaits, Gives, Forks, Starving, after, each, first_alone}
+use Rattle.merc_plan.specs.Branch.{Hold, Gift, gift_at, BranchCourse, Over, Breaks, Steps, Finds, Awaits, Gives, Forks, Starving, after, each, first_alone}
 use Rattle.merc_plan.specs.Hold.{wait_for}
-use Rattle.merc_plan.specs.Branches.{Plan, awaited, signalled, node_branch, all_branch}
-use Rattle.merc_plan.proofs.Flat.{Flat, Done, Answer}
+use Rattle.merc_plan.specs.Branches.{Plan, awaited, signalled, all_branch}
+use Rattle.merc_plan.proofs.Flat.{Done, Answer}
 use Rattle.merc_plan.proofs.Judging.{flat, Sure, Keeps}
 use Rattle.merc_plan.proofs.Sets.{same_number, is_same, absent, minus_keeps, not_one, look_past, look_same, given_here, given_other}
-use Rattle.merc_script_laws.proofs.Bonds.{Set, Here, Owed, signs, rights_for, Fit, Match, Names, Moves, here_or, Parts}
+use Rattle.merc_script_laws.proofs.Bonds.{Set, Here, Owed, signs, rights_for, Fit, Match, Names, here_or, Parts}
 use Rattle.merc_script_laws.proofs.RightLists.{equal_is, equal_same, variables_of, right_first, right_rest, right_cases, right_only, right_other, listed, not_for, none_for, for_first, for_other}
 use Rattle.merc_script_laws.proofs.Steps.{always, Waits, IsIn, AreApart, fit_waited, match_waited, moves_waited}
-use Rattle.merc_script_laws.proofs.Holding.{owed_same, Waitable, waitable_on, taken, taken_waits, no_elements, none_in, sent, signs_sent, sent_keeps, sent_other, sent_length, Sends, sends_none, sends_both, sent_sends, used_cell, uses_right}
+use Rattle.merc_script_laws.proofs.Holding.{Waitable, waitable_on, taken, taken_waits, no_elements, none_in, sent, signs_sent, sent_keeps, sent_other, sent_length, Sends, sends_none, sends_both, sent_sends, used_cell, uses_right}
 
 pub after_over : (t : BranchCourse) → after t Over ≡ t
 after_over Over = refl
@@ -126,8 +126,8 @@ module _ (plan : Plan) (program : Program) (call : Procedure → Hold → Branch
       let one = taken hold r.variable a.0 in
       let p = taken_waits here r e.0 a.0 hold can o in
       let next = waits_flat w b (here_or here (r ∷ [])) one full goals (waitable_on here (r ∷ []) hold one p can)
-          (fit_waited b here (r ∷ w) (r ∷ []) w hold one (cons_parts r w) (cons_one r w) (cons_rest r w) (cons_apart r w f.once) f.once.1 f p.moves)
-          (match_waited b here (r ∷ w) (r ∷ []) w hold one (cons_parts r w) (cons_one r w) (cons_rest r w) (cons_apart r w f.once) full f t p) in
+      (fit_waited b here (r ∷ w) (r ∷ []) w hold one (cons_parts r w) (cons_one r w) (cons_rest r w) (cons_apart r w f.once) f.once.1 f p.moves)
+      (match_waited b here (r ∷ w) (r ∷ []) w hold one (cons_parts r w) (cons_one r w) (cons_rest r w) (cons_apart r w f.once) full f t p) in
       let s = step_owed (λ inner. waiting w goals inner) hold r.variable e.0 a.0 o in
       record { hold1 = next.hold1; waits = waits_more b here r w hold one next.hold1 p next.waits f.once; is_flat = ap flat s ∙ next.is_flat; is_sure = λ q. subst (λ z. Sure z) (sym s) (next.is_sure q) }
 
@@ -144,28 +144,29 @@ module _ (plan : Plan) (program : Program) (call : Procedure → Hold → Branch
   waits_keeps proper end rights (r ∷ w) b here hold goals held g can f i k =
       let e = f.owed r.variable (right_first r w) in
       on e.0 e.1.0 e.1.1 (λ one held1 p j l.
-          waits_keeps proper end rights w b (here_or here (r ∷ [])) one goals held1 g (waitable_on here (r ∷ []) hold one p can)
-          (fit_waited b here (r ∷ w) (r ∷ []) w hold one (cons_parts r w) (cons_one r w) (cons_rest r w) (cons_apart r w f.once) f.once.1 f p.moves) j
-          (λ hold2 held2 q m. k hold2 held2 (waits_more b here r w hold one hold2 p q f.once)
-              (λ c h n. m c (l c h (λ o y. n r.variable o (right_first r w) y)) (λ y o u v. n y o (right_rest r w y u) (p.moves.old y c o v)))))
+      waits_keeps proper end rights w b (here_or here (r ∷ [])) one goals held1 g (waitable_on here (r ∷ []) hold one p can)
+      (fit_waited b here (r ∷ w) (r ∷ []) w hold one (cons_parts r w) (cons_one r w) (cons_rest r w) (cons_apart r w f.once) f.once.1 f p.moves) j
+      (λ hold2 held2 q m. k hold2 held2 (waits_more b here r w hold one hold2 p q f.once)
+      (λ c h n. m c (l c h (λ o y. n r.variable o (right_first r w) y)) (λ y o u v. n y o (right_rest r w y u) (p.moves.old y c o v)))))
     where
       on : (c : ℕ) (o : Option Value) → Owed hold r.variable c o
           → ((one : Hold) (held1 : List ℕ) → Waits here (r ∷ []) hold one → ((y c : ℕ) (o : Option Value) → are_for w y ≡ true → Owed one y c o → has c held1 ≡ true)
-            → ((c : ℕ) → has c held ≡ true → ((o : Option Value) → Owed hold r.variable c o → ⊥) → has c held1 ≡ true) → Keeps proper end rights held1 g (waiting w goals one))
+          → ((c : ℕ) → has c held ≡ true → ((o : Option Value) → Owed hold r.variable c o → ⊥) → has c held1 ≡ true) → Keeps proper end rights held1 g (waiting w goals one))
           → Keeps proper end rights held g (waiting (r ∷ w) goals hold)
       on c None e rest_keeps =
           subst (λ z. Keeps proper end rights held g z) (sym (step_starves (λ inner. waiting w goals inner) hold r.variable c e)) (i r.variable c None (right_first r w) e, tt)
       on c (Some v) e rest_keeps =
           let p = taken_waits here r c v hold can e in
-          subst (λ z. Keeps proper end rights held g z) (sym (step_owed (λ inner. waiting w goals inner) hold r.variable c v e))
-          (i r.variable c (Some v) (right_first r w) e,
+          subst (λ z. Keeps proper end rights held g z) (sym (step_owed (λ inner. waiting w goals inner) hold r.variable c v e)) (
+            i r.variable c (Some v) (right_first r w) e,
             rest_keeps (taken hold r.variable v) (without (c ∷ []) held) p
-            (λ y d o h q.
+                (λ y d o h q.
                 let u = p.moves.old y d o q in
                 minus_keeps d (c ∷ []) held
                 (not_one d c (λ s. cons_apart r w f.once y (subst (λ z. are_for (r ∷ []) z ≡ true) (can.apart r.variable y c (Some v) o e (subst (λ z. Owed hold y z o) s u)) (right_first r [])) h))
                 (i y d o (right_rest r w y h) u))
-            (λ d h n. minus_keeps d (c ∷ []) held (not_one d c (λ s. n (Some v) (subst (λ z. Owed hold r.variable z (Some v)) (sym s) e))) h))
+                (λ d h n. minus_keeps d (c ∷ []) held (not_one d c (λ s. n (Some v) (subst (λ z. Owed hold r.variable z (Some v)) (sym s) e))) h),
+          )
 
   -- Signals.
 
@@ -180,9 +181,10 @@ module _ (plan : Plan) (program : Program) (call : Procedure → Hold → Branch
     pub hold1 : Hold
     pub sends : Sends hold hold1
     pub is_flat : flat (sending s hold) ≡ Answer hold1 Done
+    pub still : ((x : ℕ) → are_for s x ≡ false) → hold1.signals ≡ hold.signals
 
   pub signals_flat : (s : List Right) (hold : Hold) → AreHere s hold → Signalled s hold
-  signals_flat [] hold a = record { hold1 = hold; sends = sends_none hold; is_flat = refl }
+  signals_flat [] hold a = record { hold1 = hold; sends = sends_none hold; is_flat = refl; still = λ k. refl }
   signals_flat (r ∷ s) hold a =
       let v = a r.variable (right_first r s) in
       let one = sent hold (used_cell r.variable hold) in
@@ -191,6 +193,7 @@ module _ (plan : Plan) (program : Program) (call : Procedure → Hold → Branch
         hold1 = next.hold1;
         sends = sends_both hold one next.hold1 (sent_sends hold (used_cell r.variable hold)) next.sends;
         is_flat = ap flat (step_sent (λ inner. sending s inner) hold r.variable v.0 v.1) ∙ next.is_flat;
+        still = λ k. clash (right_first r s) (k r.variable);
       }
 
   signal_sure : (f : Hold → BranchCourse) (hold : Hold) (c : ℕ) (o : Option Value) → (Sure (f (sent hold c))) → Sure (each f (first_alone (signalled hold c o)))
@@ -208,6 +211,7 @@ module _ (plan : Plan) (program : Program) (call : Procedure → Hold → Branch
     pub left : (c : ℕ) → ((x : ℕ) → are_for s x ≡ true → has c (signs x hold) ≡ true → ⊥) → gift_at c g1 ≡ gift_at c g
     pub signed : (x : ℕ) → are_for s x ≡ true → signs x hold1 ≡ []
     pub unsigned : (x : ℕ) → are_for s x ≡ false → signs x hold1 ≡ signs x hold
+    pub still : ((x : ℕ) → are_for s x ≡ false) → hold1.signals ≡ hold.signals
 
   -- of each variable as many rights are used as there are
   abbrev pub Counts : List Right → Hold → Type 0
@@ -269,21 +273,25 @@ module _ (plan : Plan) (program : Program) (call : Procedure → Hold → Branch
         left = λ c n. p.left c (λ x h k. n x (right_rest r s x h) (signs_sent x cell c hold k).0) ∙ other_cell c cell (Some v) g (λ q. n r.variable (right_first r s) (subst (λ z. has z (signs r.variable hold) ≡ true) (sym q) is_sign));
         signed = λ x h. signed x h (either_way (are_for s x));
         unsigned = λ x h. let o = right_other r s x h in p.unsigned x o.1 ∙ sent_other x cell hold (not_other x o.0);
+        still = λ k. clash (right_first r s) (k r.variable);
       } where
         gave_here : gift_at cell g1 ≡ Some (Some v)
         gave_here = p.left cell (λ x h k. (signs_sent x cell cell hold k).1 refl) ∙ this_cell cell (Some v) g fresh
+
         gave_other : (x c : ℕ) → are_for (r ∷ s) x ≡ true → has c (signs x one) ≡ true → (are_for s x ≡ true) ⊎ (are_for s x ≡ false) → (u : Value) × ((gift_at c g1 ≡ Some (Some u)) × Here hold x u)
         gave_other x c h k (inl i) = p.gave x c i k
         gave_other x c h k (inr i) = elim (right_cases r s x h) as (λ _. (u : Value) × ((gift_at c g1 ≡ Some (Some u)) × Here hold x u)) [
           | inl q ↦ absurd (none_in c (signs x one) (ap length (subst (λ y. are_for s y ≡ false → signs y one ≡ []) q none_left i)) k)
           | inr q ↦ clash q i
         ]
+
         gave : (x c : ℕ) → are_for (r ∷ s) x ≡ true → has c (signs x hold) ≡ true → (nat_eq c cell ≡ true) ⊎ (nat_eq c cell ≡ false) → (u : Value) × ((gift_at c g1 ≡ Some (Some u)) × Here hold x u)
         gave x c h k (inl q) =
             let same = same_number c cell q in
             let x_is = names.apart r.variable x cell is_sign (subst (λ z. has z (signs x hold) ≡ true) same k) in
             (v, (subst (λ z. gift_at z g1 ≡ Some (Some v)) (sym same) gave_here, subst (λ y. Here hold y v) x_is e))
         gave x c h k (inr q) = gave_other x c h (sent_keeps x cell c hold k (λ same. clash (subst (λ z. nat_eq c z ≡ true) same (is_same c)) q)) (either_way (are_for s x))
+
         signed : (x : ℕ) → are_for (r ∷ s) x ≡ true → (are_for s x ≡ true) ⊎ (are_for s x ≡ false) → signs x hold1 ≡ []
         signed x h (inl i) = p.signed x i
         signed x h (inr i) = elim (right_cases r s x h) as (λ _. signs x hold1 ≡ []) [
@@ -297,14 +305,19 @@ module _ (plan : Plan) (program : Program) (call : Procedure → Hold → Branch
       → ((x c : ℕ) → are_for s x ≡ true → has c (signs x hold) ≡ true → (rights c ≡ true) × (gift_at c g ≡ None))
       → ((hold1 : Hold) (g1 : List Gift) → Sent s hold g hold1 g1 → end held g1 hold1) → Keeps proper end rights held g (sending s hold)
   signals_keeps proper end rights held [] hold g names a counts is_proper may k =
-      k hold g (record { sends = sends_none hold; gave = λ x c h i. clash h refl; left = λ c n. refl; signed = λ x h. clash h refl; unsigned = λ x h. refl })
+      k hold g (record { sends = sends_none hold; gave = λ x c h i. clash h refl; left = λ c n. refl; signed = λ x h. clash h refl; unsigned = λ x h. refl; still = λ k. refl })
   signals_keeps proper end rights held (r ∷ s) hold g names a counts is_proper may k =
       let v = a r.variable (right_first r s) in
       let c = used_cell r.variable hold in
       let one = sent hold c in
       let m = may r.variable c (right_first r s) (is_sign r s hold names counts) in
-      subst (λ z. Keeps proper end rights held g z) (sym (step_sent (λ inner. sending s inner) hold r.variable v.0 v.1))
-      ((is_proper r.variable c v.0 (right_first r s) (is_sign r s hold names counts) v.1, m.0), (m.1, signals_keeps proper end rights held s one (g ++ (record { cell = c; value = Some v.0 } ∷ [])) ((sent_sends hold c).names names) (λ x h. a x (right_rest r s x h)) (counts_rest r s hold names counts)
-          (λ x d u h i e. is_proper x d u (right_rest r s x h) (signs_sent x c d hold i).0 e)
-          (rest_fresh r s hold names counts v.0 v.1 g m.1 rights may)
-          (λ hold1 g1 p. k hold1 g1 (sent_more r s hold names counts v.0 v.1 g m.1 hold1 g1 p))))
+      subst (λ z. Keeps proper end rights held g z) (sym (step_sent (λ inner. sending s inner) hold r.variable v.0 v.1)) (
+        (is_proper r.variable c v.0 (right_first r s) (is_sign r s hold names counts) v.1, m.0),
+        (
+          m.1,
+          signals_keeps proper end rights held s one (g ++ (record { cell = c; value = Some v.0 } ∷ [])) ((sent_sends hold c).names names) (λ x h. a x (right_rest r s x h)) (counts_rest r s hold names counts)
+              (λ x d u h i e. is_proper x d u (right_rest r s x h) (signs_sent x c d hold i).0 e)
+              (rest_fresh r s hold names counts v.0 v.1 g m.1 rights may)
+              (λ hold1 g1 p. k hold1 g1 (sent_more r s hold names counts v.0 v.1 g m.1 hold1 g1 p)),
+        ),
+      )

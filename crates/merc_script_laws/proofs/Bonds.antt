@@ -1,19 +1,18 @@
 -- What a branch has of variables and rights, before a goal and behind it.
-use Rattle.std.proofs.Common.{◌≡◌, ℕ, zero, suc, ◌+◌, ◌≤◌, ◌<◌, ◌⊎◌, inl, inr, Bool, true, false, ◌==◌, ◌||◌, ◌&&◌, not, if◌then◌else◌, is_some, List, [], ◌∷◌, ◌++◌, length, map, Option, Some, None, slice_get, refl, ap, sym, subst, ◌∙◌, arith}
+use Rattle.std.proofs.Common.{◌≡◌, ℕ, ◌+◌, ◌<◌, ◌⊎◌, Bool, true, false, ◌==◌, List, [], length, map, Option, Some, None, slice_get}
 use Rattle.std.specs.List.{AllByRecursion, filter}
 use Rattle.merc_base.specs.Category.{can_fail_of, most_of}
 use Rattle.merc_base.specs.declared.category.Most.TheVariants.{Zero}
-use Rattle.merc_tree.specs.Types.{TypeExpr, replaced}
+use Rattle.merc_tree.specs.Types.{replaced}
 use Rattle.merc_tree.specs.declared.declarations.Module.{Module}
 use Rattle.merc_goal_tree.specs.declared.goal.Symbol.{Symbol}
 use Rattle.merc_graded_tree.specs.declared.basic.Procedure.{Procedure}
-use Rattle.merc_graded_tree.specs.Nodes.{Node, node, outputs_of, category_of}
+use Rattle.merc_graded_tree.specs.Nodes.{Node, outputs_of, category_of}
 use Rattle.merc_graded_tree.specs.Variables.{in_node}
 use Rattle.merc_order.specs.Bound.{Bound, with, among}
 use Rattle.merc_order.specs.Procedures.{modes_of}
 use Rattle.merc_grading.specs.Known.{Known, known_of, known_behind}
 use Rattle.merc_grading.specs.Grading.{category_at}
-use Rattle.merc_grading.specs.Faults.{parallel_faults}
 use Rattle.merc_order_laws.specs.Bindings.{Variables}
 use Rattle.merc_order_laws.specs.GoodTree.{GoodNode}
 use Rattle.merc_order_laws.specs.WrittenGoals.{basic_goals}
@@ -35,7 +34,7 @@ use Rattle.merc_par_split.specs.declared.sites.SiteInfo.{SiteInfo}
 use Rattle.merc_plan.specs.Branch.{HeldWait, HeldSignal, Hold, Gift, gift_at, BranchCourse}
 use Rattle.merc_plan.specs.Hold.{wait_for}
 use Rattle.merc_plan.specs.Branches.{Plan, node_branch}
-use Rattle.merc_plan.proofs.Flat.{Flat, Like, events}
+use Rattle.merc_plan.proofs.Flat.{Like, events}
 use Rattle.merc_plan.proofs.Judging.{flat, Sure, Keeps, Quiet}
 use Rattle.merc_script_laws.specs.Parallel.{IsParallelTree}
 
@@ -192,14 +191,14 @@ module _ (known : Module) (types i : Instance) where
     -- first answer, and where there are no rights.
     pub record Goes (n : Node) (make : (ℕ → Bool) → List Right → List Right → Node) (fits : (ℕ → Bool) → List Right → List Right → Type 0) : Type 1 where
       pub along : (later : ℕ → Bool) (w s : List Right) (out : Variables) (b : Bound) (seen : Known) (here : Set) (hold : Hold) (full : Env) → fits later w s → AllUsed w (in_node n) → Within s (outputs_of n)
-        → Sound out b seen n → Fits known types i out b (in_node n) seen full → Fit b here w hold → Match w hold full → Ready here w b (in_node n) → Names hold
-        → Like (Ends full here w s later (outputs_of n) hold) (flat (node_branch plan split course (make later w s) hold)) (events (node_trace program calls n full))
-        × Sure (node_branch plan split course (make later w s) hold)
+          → Sound out b seen n → Fits known types i out b (in_node n) seen full → Fit b here w hold → Match w hold full → Ready here w b (in_node n) → Names hold
+          → Like (Ends full here w s later (outputs_of n) hold) (flat (node_branch plan split course (make later w s) hold)) (events (node_trace program calls n full))
+          × Sure (node_branch plan split course (make later w s) hold)
       pub uses : (later : ℕ → Bool) (w s : List Right) (out : Variables) (b : Bound) (seen : Known) (here : Set) (hold : Hold) (rights : ℕ → Bool) (held : List ℕ) (g : List Gift)
-        (proper : ℕ → Value → Type 0) → Proper seen n s hold proper → fits later w s → AllUsed w (in_node n)
-        → Sound out b seen n → can_fail_of (category_at n) ≡ false → Fine known types i out b (in_node n) seen hold → Fit b here w hold → Ready here w b (in_node n) → Names hold
-        → Rightful w s (outputs_of n) rights held g hold
-        → Keeps proper (Used (After known types i out b (outputs_of n) (in_node n) seen (known_behind n seen) hold) (most_of (category_at n) ≡ Zero) here w s later (outputs_of n) hold held g) rights held g
+          (proper : ℕ → Value → Type 0) → Proper seen n s hold proper → fits later w s → AllUsed w (in_node n)
+          → Sound out b seen n → can_fail_of (category_at n) ≡ false → Fine known types i out b (in_node n) seen hold → Fit b here w hold → Ready here w b (in_node n) → Names hold
+          → Rightful w s (outputs_of n) rights held g hold
+          → Keeps proper (Used (After known types i out b (outputs_of n) (in_node n) seen (known_behind n seen) hold) (most_of (category_at n) ≡ Zero) here w s later (outputs_of n) hold held g) rights held g
           (node_branch plan split course (make later w s) hold)
       pub quiet : (later : ℕ → Bool) (out : Variables) (b : Bound) (seen : Known) (here : Set) (hold : Hold) → fits later [] [] → Sound out b seen n → Fine known types i out b (in_node n) seen hold → Fit b here [] hold
           → Ready here [] b (in_node n) → Names hold → Quiet hold.next [] (node_branch plan split course (make later [] []) hold)

@@ -1,7 +1,6 @@
 -- The category law from what a branch has: where all that a goal uses of what is bound is here, it goes on as the law says.
-use Rattle.std.proofs.Common.{◌≡◌, ◌⊎◌, inl, inr, ℕ, Bool, true, false, ◌||◌, is_some, List, [], ◌∷◌, Option, Some, None, refl, ap, sym, ◌∙◌, subst}
+use Rattle.std.proofs.Common.{◌≡◌, inl, inr, ℕ, Bool, true, false, is_some, [], Some, refl, ap, sym, ◌∙◌}
 use Rattle.merc_base.specs.Category.{can_fail_of, most_of}
-use Rattle.merc_base.specs.declared.category.Category.{Category}
 use Rattle.merc_base.specs.declared.category.Most.{Most}
 use Rattle.merc_base.specs.declared.category.Most.TheVariants.{Zero, One, Many}
 use Rattle.merc_tree.specs.declared.declarations.Module.{Module}
@@ -27,10 +26,10 @@ use Rattle.merc_program_laws.proofs.Lawful.{Fits, Goes, Lawful}
 use Rattle.merc_program_laws.proofs.Calls.{LawfulCalls}
 use Rattle.merc_program_laws.proofs.TreeCategories.{node_law}
 use Rattle.merc_plan.specs.Branch.{Hold}
-use Rattle.merc_plan.proofs.Flat.{Flat, Done, Halts, Tick, Answer, NotDone, Each, Like, events}
+use Rattle.merc_plan.proofs.Flat.{Flat, NotDone, Each, Like, events}
 use Rattle.merc_plan.proofs.Likes.{like_with, like_answers, each_all, each_more}
 use Rattle.merc_script_laws.proofs.Bonds.{Set, Here, Fit, Fine, After, Moves, Ends, Ready, Sound}
-use Rattle.merc_script_laws.proofs.Seen.{Agree, agree_back, behind_agree, behind_other, graded_same, known_in_other, known_in_same, occurring, occurring_agrees}
+use Rattle.merc_script_laws.proofs.Seen.{agree_back, behind_agree, behind_other, graded_same, known_in_other, known_in_same, occurring, occurring_agrees}
 
 -- Traces.
 
@@ -64,7 +63,7 @@ is_here here b uses hold f r x u h = elim (r x u h) as (λ _. (v : Value) × (he
 
 -- Given are the module, the types of the variables, and what type variables stand for.
 module _ (known : Module) (types i : Instance) where
-  abbrev AfterGoal : Variables → Bound → Node → Known → Env → Env → Type 0
+  abbrev pub AfterGoal : Variables → Bound → Node → Known → Env → Env → Type 0
   AfterGoal out b n seen env env' = Goes known types i out (with b (among (outputs_of n))) (in_node n) (known_behind n (occurring n seen)) env env'
 
   module _ (out : Variables) (b : Bound) (seen : Known) (n : Node) (here : Set) (hold : Hold) (fine : Fine known types i out b (in_node n) seen hold) where

@@ -1,5 +1,5 @@
 -- What a branch has behind one wait and behind one signal.
-use Rattle.std.proofs.Common.{◌≡◌, ◌⊎◌, inl, inr, ℕ, zero, suc, ◌<◌, ◌+◌, Bool, true, false, not, ◌==◌, ◌||◌, nat_eq, if◌then◌else◌, List, [], ◌∷◌, length, map, filter, Option, Some, None, refl, ap, sym, subst, ◌∙◌}
+use Rattle.std.proofs.Common.{◌≡◌, ◌⊎◌, inl, inr, ℕ, zero, suc, Bool, true, false, not, ◌==◌, if◌then◌else◌, List, [], ◌∷◌, length, map, filter, Option, Some, None, refl, ap, sym, subst, ◌∙◌}
 use Rattle.merc_order_laws.proofs.Facts.{clash, either_way}
 use Rattle.merc_value.specs.Value.{Value}
 use Rattle.merc_meaning.specs.Steps.{value_at, with_entry}
@@ -13,7 +13,7 @@ use Rattle.merc_plan.specs.Hold.{wait_for, without_wait, sooner, signal_for, wit
 use Rattle.merc_plan.specs.Branches.{signal_cell}
 use Rattle.merc_plan.proofs.Sets.{absent, front_or, first_in, rest_in, minus_in, minus_keeps, gone_not, only_one, not_one}
 use Rattle.merc_script_laws.proofs.Bonds.{Set, Here, Owed, signs, Names, Moves}
-use Rattle.merc_script_laws.proofs.RightLists.{equal_is, equal_same, equal_not, right_first, right_only, right_other}
+use Rattle.merc_script_laws.proofs.RightLists.{equal_is, equal_same, right_only, right_other}
 use Rattle.merc_script_laws.proofs.Steps.{always, Waits}
 
 -- Lists of cells without one.
@@ -172,8 +172,13 @@ module _ (here : Set) (r : Right) (c : ℕ) (v : Value) (hold : Hold) (can : Wai
     still = λ k. refl;
   } where
     got : (y d : ℕ) (o : Option Value) → r.variable ≡ y → Owed hold y d o → (u : Value) × ((o ≡ Some u) × Here (taken hold r.variable v) y u)
-    got y d o p f = (v, (sym (owed_same hold r.variable c d (Some v) o e (subst (λ z. Owed hold z d o) (sym p) f)).1,
-        subst (λ z. Here (taken hold r.variable v) z v) p (at_same hold.env r.variable v)))
+    got y d o p f = (
+      v,
+      (
+        sym (owed_same hold r.variable c d (Some v) o e (subst (λ z. Owed hold z d o) (sym p) f)).1,
+        subst (λ z. Here (taken hold r.variable v) z v) p (at_same hold.env r.variable v),
+      ),
+    )
 
   pub taken_waits : Waits here (r ∷ []) hold (taken hold r.variable v)
   taken_waits = record {
@@ -324,16 +329,23 @@ found_sooner x r rights (inr f) =
 
 found_case : (x : ℕ) (b : Bool) (r : HeldSignal) (rights : List HeldSignal) → r.variable == x ≡ b → ((signal_for x rights ≡ None) × (signs_of x rights ≡ [])) ⊎ Found x rights
     → ((signal_for x (r ∷ rights) ≡ None) × (signs_of x (r ∷ rights) ≡ [])) ⊎ Found x (r ∷ rights)
-found_case x true r rights e k = inr (sooner r (signal_for x rights), (ap (λ (b : Bool). if b then Some (sooner r (signal_for x rights)) else signal_for x rights) e,
-    subst (λ l. has (sooner r (signal_for x rights)).cell l ≡ true) (sym (ap (λ (b : Bool). map (λ (right : HeldSignal). right.cell) (if b then r ∷ filter (λ (right : HeldSignal). right.variable == x) rights else filter (λ (right : HeldSignal). right.variable == x) rights)) e)) (found_sooner x r rights (less k)))) where
+found_case x true r rights e k = inr (
+  sooner r (signal_for x rights),
+  (
+    ap (λ (b : Bool). if b then Some (sooner r (signal_for x rights)) else signal_for x rights) e,
+    subst (λ l. has (sooner r (signal_for x rights)).cell l ≡ true) (sym (ap (λ (b : Bool). map (λ (right : HeldSignal). right.cell) (if b then r ∷ filter (λ (right : HeldSignal). right.variable == x) rights else filter (λ (right : HeldSignal). right.variable == x) rights)) e)) (found_sooner x r rights (less k)),
+  ),
+) where
   less : ((signal_for x rights ≡ None) × (signs_of x rights ≡ [])) ⊎ Found x rights → (signal_for x rights ≡ None) ⊎ Found x rights
   less (inl p) = inl p.0
   less (inr p) = inr p
 found_case x false r rights e k = on k where
   same_signal : signal_for x (r ∷ rights) ≡ signal_for x rights
   same_signal = ap (λ (b : Bool). if b then Some (sooner r (signal_for x rights)) else signal_for x rights) e
+
   same_signs : signs_of x (r ∷ rights) ≡ signs_of x rights
   same_signs = ap (λ (b : Bool). map (λ (right : HeldSignal). right.cell) (if b then r ∷ filter (λ (right : HeldSignal). right.variable == x) rights else filter (λ (right : HeldSignal). right.variable == x) rights)) e
+
   on : ((signal_for x rights ≡ None) × (signs_of x rights ≡ [])) ⊎ Found x rights → ((signal_for x (r ∷ rights) ≡ None) × (signs_of x (r ∷ rights) ≡ [])) ⊎ Found x (r ∷ rights)
   on (inl p) = inl (same_signal ∙ p.0, same_signs ∙ p.1)
   on (inr p) = inr (p.0, (same_signal ∙ p.1.0, subst (λ l. has p.0.cell l ≡ true) (sym same_signs) p.1.1))

@@ -4,6 +4,11 @@ pub mod Steps
 pub mod Using
 pub mod Seen
 pub mod HoldLaw
+pub mod Leaf
+pub mod BasicLeaves
+pub mod CallLeaves
+pub mod JoinedLeaves
+pub mod LeafUses
 pub mod Holding
 pub mod Around
 pub mod OutputsOrdered
@@ -11,6 +16,9 @@ pub mod OutputsSpelt
 pub mod OutputsFound
 pub mod OutputsGraded
 pub mod OutputsAccepted
+pub mod Sides
+pub mod Runs
+pub mod StaticKnown
 pub mod Beside
 pub mod FewWritten
 pub mod FewForms

@@ -1,5 +1,5 @@
 -- Lists of rights as sets of variables.
-use Rattle.std.proofs.Common.{◌≡◌, ◌⊎◌, inl, inr, ℕ, zero, suc, Bool, true, false, not, ◌==◌, ◌||◌, ◌&&◌, if◌then◌else◌, List, [], ◌∷◌, ◌++◌, length, map, filter, refl, ap, sym, subst, ◌∙◌}
+use Rattle.std.proofs.Common.{◌≡◌, ◌⊎◌, inl, inr, ℕ, Bool, true, false, not, ◌==◌, ◌||◌, if◌then◌else◌, List, [], ◌∷◌, ◌++◌, map, refl, ap, sym, subst, ◌∙◌}
 use Rattle.std.proofs.lemmas.Bool.Decides.{Decides-eqb}
 use Rattle.merc_order.specs.Bound.{Bound, with, among}
 use Rattle.merc_order_laws.proofs.Facts.{clash, or_left, or_right, or_cases, either_way, or_assoc, among_append}
@@ -8,7 +8,7 @@ use Rattle.merc_core.specs.WellFormed.{AreDistinct}
 use Rattle.merc_par_split.specs.Rights.{Right, those}
 use Rattle.merc_par_split.specs.Sites.{are_for}
 use Rattle.merc_plan.proofs.Sets.{absent, front_or, first_in, rest_in}
-use Rattle.merc_script_laws.proofs.Bonds.{rights_for, Within, Parts}
+use Rattle.merc_script_laws.proofs.Bonds.{rights_for, Parts}
 
 pub not_not : (b : Bool) → not b ≡ true → b ≡ false
 not_not true h = clash h refl

@@ -1,7 +1,6 @@
 -- Categories depend on what is known of the variables that occur in a goal, and on nothing else that is known.
-use Rattle.std.proofs.Common.{◌≡◌, ◌⊎◌, inl, inr, ℕ, Bool, true, false, ◌==◌, ◌||◌, if◌then◌else◌, List, [], ◌∷◌, Option, Some, None, refl, ap, sym, ◌∙◌, subst}
+use Rattle.std.proofs.Common.{◌≡◌, inl, inr, ℕ, Bool, true, false, ◌==◌, ◌||◌, if◌then◌else◌, List, [], ◌∷◌, Option, Some, None, refl, ap, sym, ◌∙◌, subst}
 use Rattle.std.specs.List.{filter}
-use Rattle.std.proofs.lemmas.Bool.Decides.{Decides-eqb}
 use Rattle.merc_base.specs.declared.category.Category.{Category}
 use Rattle.merc_tree.specs.Types.{TypeExpr}
 use Rattle.merc_tree.specs.declared.declarations.ModeDecl.{ModeDecl}
@@ -10,12 +9,12 @@ use Rattle.merc_goal_tree.specs.declared.goal.Symbol.{Symbol}
 use Rattle.merc_graded_tree.specs.declared.basic.BasicGoal.{BasicGoal}
 use Rattle.merc_graded_tree.specs.declared.basic.BasicGoal.TheVariants.{True, Fail, Assign, Test, Build, Split, Arithmetic, Compare, Raise, Call, Wait, Signal}
 use Rattle.merc_graded_tree.specs.Nodes.{Node, node, Goal, Basic, Conjunction, Disjunction, Switch, Conditional, Negation, Quantified, Nodes, no_nodes, more_nodes, Arms, no_arms, more_arms}
-use Rattle.merc_graded_tree.specs.Variables.{among, in_goal, in_node, in_nodes, in_arms}
+use Rattle.merc_graded_tree.specs.Variables.{in_goal, in_node, in_nodes, in_arms}
 use Rattle.merc_order_laws.specs.Bindings.{Variables}
-use Rattle.merc_order_laws.proofs.Facts.{clash, or_left, or_right, either_way}
+use Rattle.merc_order_laws.proofs.Facts.{clash, or_left, or_right}
 use Rattle.merc_grading.specs.Known.{symbols_of_type, is_single, Known, known_of, with_known, known_behind_basic, known_behind, known_behind_goal, known_behind_all}
-use Rattle.merc_grading.specs.Grading.{split_category, capped, rule, with_category}
-use Rattle.merc_program_laws.proofs.Values.{or_not_left, or_not_right, same_number, chosen_true, chosen_false, among_here, among_there, not_here}
+use Rattle.merc_grading.specs.Grading.{split_category, capped, rule}
+use Rattle.merc_program_laws.proofs.Values.{or_not_left, or_not_right, same_number, chosen_false, among_here, among_there, not_here}
 use Rattle.merc_program_laws.proofs.Graded.{Graded, GradedGoal, GradedAll, GradedEach, GradedArms}
 
 -- the same is known of these variables
@@ -81,13 +80,13 @@ mutual
 
 -- a goal tells nothing of variables that do not occur in it
 
-other_more : (seen : Known) (v x : ℕ) (s : Symbol) → (v ≡ x → ⊥) → known_of ((v, s) ∷ seen) x ≡ known_of seen x
+pub other_more : (seen : Known) (v x : ℕ) (s : Symbol) → (v ≡ x → ⊥) → known_of ((v, s) ∷ seen) x ≡ known_of seen x
 other_more seen v x s h = elim (same_number v x) as (λ _. known_of ((v, s) ∷ seen) x ≡ known_of seen x) [
   | inl p ↦ absurd (h p.1)
   | inr p ↦ chosen_false (Some s) (known_of seen x) p.0
 ]
 
-other_with : (seen : Known) (v x : ℕ) (o : Option Symbol) → (v ≡ x → ⊥) → known_of (with_known v o seen) x ≡ known_of seen x
+pub other_with : (seen : Known) (v x : ℕ) (o : Option Symbol) → (v ≡ x → ⊥) → known_of (with_known v o seen) x ≡ known_of seen x
 other_with seen v x None h = refl
 other_with seen v x (Some s) h = other_more seen v x s h
 

@@ -1,10 +1,9 @@
 -- From before one goal to behind it, and from before waits to behind them.
-use Rattle.std.proofs.Common.{◌≡◌, ◌⊎◌, inl, inr, ℕ, zero, suc, ◌<◌, Bool, true, false, not, ◌||◌, List, [], ◌∷◌, ◌++◌, length, map, Option, Some, None, refl, ap, sym, subst, ◌∙◌}
-use Rattle.merc_tree.specs.Types.{TypeExpr, replaced}
+use Rattle.std.proofs.Common.{◌≡◌, ◌⊎◌, inl, inr, ℕ, Bool, true, false, not, ◌||◌, ◌&&◌, List, [], ◌++◌, map, Option, Some, refl, ap, sym, subst, ◌∙◌}
+use Rattle.merc_tree.specs.Types.{replaced}
 use Rattle.merc_tree.specs.declared.declarations.Module.{Module}
-use Rattle.merc_goal_tree.specs.declared.goal.Symbol.{Symbol}
 use Rattle.merc_order.specs.Bound.{Bound, with, among}
-use Rattle.merc_grading.specs.Known.{Known, known_of}
+use Rattle.merc_grading.specs.Known.{Known}
 use Rattle.merc_order_laws.specs.Bindings.{Variables, Binds}
 use Rattle.merc_order_laws.proofs.Facts.{clash, or_left, or_right, or_cases, either_way, among_append}
 use Rattle.merc_value.specs.Value.{Value, Values}
@@ -12,14 +11,13 @@ use Rattle.merc_meaning.specs.Trace.{Env}
 use Rattle.merc_meaning.specs.Values.{fields}
 use Rattle.merc_meaning.specs.Steps.{value_at}
 use Rattle.merc_program_laws.specs.ValueTypes.{HasType}
-use Rattle.merc_program_laws.proofs.Values.{Instance, or_not_left, or_not_right, same_some}
-use Rattle.merc_core.specs.Rights.{has}
+use Rattle.merc_program_laws.proofs.Values.{Instance, or_not_left, or_not_right, both_are}
 use Rattle.merc_core.specs.WellFormed.{AreDistinct}
 use Rattle.merc_par_split.specs.Rights.{Right, those}
 use Rattle.merc_par_split.specs.Sites.{are_for}
-use Rattle.merc_plan.specs.Branch.{HeldWait, HeldSignal, Hold, Gift, gift_at}
-use Rattle.merc_script_laws.proofs.Bonds.{Set, Here, Owed, signs, rights_for, Within, AllUsed, Fit, Fine, After, Match, Names, Moves, Kept, Ready, here_behind, here_or, Parts, Used, Rightful}
-use Rattle.merc_script_laws.proofs.RightLists.{not_not, is_not, variables_of, those_in, in_those, not_those, those_within, those_once, not_for, none_for, for_those, bound_both}
+use Rattle.merc_plan.specs.Branch.{HeldWait, Hold}
+use Rattle.merc_script_laws.proofs.Bonds.{Set, Here, Owed, AllUsed, Fit, Fine, After, Match, Names, Moves, Kept, Ready, here_behind, here_or, Parts}
+use Rattle.merc_script_laws.proofs.RightLists.{not_not, is_not, variables_of, those_in, in_those, not_those, those_within, those_once, not_for, bound_both}
 
 abbrev pub always : ℕ → Bool
 always x = true
@@ -326,6 +324,31 @@ module _ (b : Bound) (here : Set) (w w1 w2 : List Right) (hold hold1 : Hold) (pa
       knows = a.knows;
       same = a.same;
     }
+
+-- a goal with the waits for what it uses, and at its end those for what is used behind it alone
+module _ (uses later : ℕ → Bool) (here : Set) (w s s1 : List Right) (outs : List ℕ) (hold hold1 hold2 : Hold) where
+  abbrev passed : ℕ → Bool
+  passed x = later x && not (uses x)
+
+  pub moves_closed : (((x : ℕ) → are_for s x ≡ false) → (x : ℕ) → are_for s1 x ≡ false) → Moves here (those uses w) s1 later outs hold hold1
+      → Moves (here_behind here (those uses w) later outs) (those passed w) [] always [] hold1 hold2 → Moves here w s later outs hold hold2
+  moves_closed none m n = record {
+    keep = λ x v h e. n.keep x v (inl h) (m.keep x v h e);
+    fresh = λ x h. let g = m.fresh x h in (g.0, n.keep x g.0 (inr (inl h)) g.1);
+    got = λ x c o h l e. got x c o h l e (either_way (uses x));
+    rest = λ x c o h e. n.rest x c o (those_within passed w x h) (m.rest x c o (those_within uses w x h) e);
+    old = λ x c o e. m.old x c o (n.old x c o e);
+    next = n.next ∙ m.next;
+    names = λ k. n.names (m.names k);
+    signed = λ x c h. m.signed x c (n.signed x c h);
+    still = λ k. n.still (λ x. refl) ∙ m.still (none k);
+  } where
+    got : (x c : ℕ) (o : Option Value) → are_for w x ≡ true → later x ≡ true → Owed hold x c o → (uses x ≡ true) ⊎ (uses x ≡ false) → (v : Value) × ((o ≡ Some v) × Here hold2 x v)
+    got x c o h l e (inl u) =
+        let i = in_those uses w x h u in
+        let g = m.got x c o i l e in
+        (g.0, (g.1.0, n.keep x g.0 (inr (inr (i, l))) g.1.1))
+    got x c o h l e (inr u) = n.got x c o (in_those passed w x h (both_are (later x) (not (uses x)) l (is_not (uses x) u))) refl (m.rest x c o (not_those uses w x (λ i p. clash p u)) e)
 
 -- what is so behind a goal hangs on the values alone
 pub after_same : (known : Module) (types i : Instance) (out : Variables) (b : Bound) (outs : List ℕ) (occurs : Variables) (seen seen1 : Known) (hold hold1 hold2 : Hold) → hold2.env ≡ hold1.env

@@ -1,13 +1,13 @@
 -- Rights used up by one goal and then by the rest.
-use Rattle.std.proofs.Common.{◌≡◌, ◌⊎◌, inl, inr, ℕ, zero, suc, ◌<◌, Bool, true, false, not, ◌||◌, List, [], ◌∷◌, ◌++◌, length, map, Option, Some, None, refl, ap, sym, subst, ◌∙◌}
-use Rattle.merc_order.specs.Bound.{Bound, with, among}
-use Rattle.merc_order_laws.proofs.Facts.{clash, or_left, or_right, or_cases, either_way, among_append}
-use Rattle.merc_value.specs.Value.{Value, Values}
+use Rattle.std.proofs.Common.{◌≡◌, ◌⊎◌, inl, inr, ℕ, ◌<◌, Bool, true, false, List, [], ◌++◌, length, Option, Some, ap, sym, subst, ◌∙◌}
+use Rattle.merc_order.specs.Bound.{among}
+use Rattle.merc_order_laws.proofs.Facts.{clash, or_cases, either_way, among_append}
+use Rattle.merc_value.specs.Value.{Value}
 use Rattle.merc_core.specs.Rights.{has}
 use Rattle.merc_par_split.specs.Rights.{Right, those}
 use Rattle.merc_par_split.specs.Sites.{are_for}
 use Rattle.merc_plan.specs.Branch.{Hold, Gift, gift_at}
-use Rattle.merc_script_laws.proofs.Bonds.{Set, Here, Owed, signs, rights_for, Within, Fit, Names, Moves, here_behind, Used, Rightful}
+use Rattle.merc_script_laws.proofs.Bonds.{Set, Here, Owed, signs, Names, here_behind, Used, Rightful}
 use Rattle.merc_script_laws.proofs.RightLists.{not_not, is_not, those_in, in_those, not_those, those_within, for_those}
 use Rattle.merc_script_laws.proofs.Steps.{unused, or_later, moves_both}
 
