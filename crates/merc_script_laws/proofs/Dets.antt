@@ -16,7 +16,7 @@ use Rattle.merc_order_laws.specs.Bindings.{Variables}
 use Rattle.merc_order_laws.proofs.Facts.{clash}
 use Rattle.merc_grading.specs.Known.{Known}
 use Rattle.merc_grading.specs.Grading.{given, category_at}
-use Rattle.merc_grading.specs.Faults.{runs_beside, beside_faults}
+use Rattle.merc_grading.specs.Faults.{runs_beside, beside_faults, all_faults}
 use Rattle.merc_meaning.specs.Trace.{Env, Trace, Ends as TraceEnds, Tick as TraceTick, Answer as TraceAnswer, Done as TraceDone, Raised as TraceRaised, TooDeep as TraceTooDeep, first_alone}
 use Rattle.merc_meaning.specs.Runs.{Program, answers_once, once_if, goal_trace, node_trace}
 use Rattle.merc_program_laws.specs.GoodPrograms.{AreGoodTypes}
@@ -102,6 +102,14 @@ all_beside number (more_nodes n ns) h =
     let one : Refusal = record { rule = ParallelCategory; place = place_of (span_of n); detail = Conjunct number (category_at n) } in
     let r = beside_case (runs_beside (category_at n)) one (beside_faults (suc number) ns) h in
     (r.0, all_beside (suc number) ns r.1)
+
+both_none : (xs ys : List Refusal) → xs ++ ys ≡ [] → (xs ≡ []) × (ys ≡ [])
+both_none [] ys h = (refl, h)
+both_none (x ∷ xs) ys h = absurd cc
+
+-- the conjuncts of a parallel conjunction without faults
+pub conjuncts_beside : (goals : Nodes) → beside_faults 1 goals ++ all_faults goals ≡ [] → AllBeside goals × (all_faults goals ≡ [])
+conjuncts_beside goals h = let r = both_none (beside_faults 1 goals) (all_faults goals) h in (all_beside 1 goals r.0, r.1)
 
 -- Given are the program of the graded trees and the traces of its calls.
 module _ (program : Program) (calls : Procedure → Env → Trace) where

@@ -32,7 +32,11 @@ pub mod Cells
 pub mod Sites
 pub mod SiteMoves
 pub mod Counts
-pub mod Dets
+pub mod Static
 pub mod Placed
+pub mod Kids
+pub mod Conjuncts
+pub mod Dets
+pub mod Begins
 pub mod Behind
 pub mod BehindWaits
