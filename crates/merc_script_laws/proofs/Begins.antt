@@ -6,7 +6,7 @@ use Rattle.merc_tree.specs.declared.declarations.ModeDecl.{ModeDecl}
 use Rattle.merc_graded_tree.specs.declared.entries.Running.TheVariants.{Sequential, Parallel}
 use Rattle.merc_graded_tree.specs.Nodes.{Node, node, Goal, Basic, Conjunction, Disjunction, Switch, Conditional, Negation, Quantified, outputs_of, category_of, span_of}
 use Rattle.merc_graded_tree.specs.Variables.{in_node}
-use Rattle.merc_order.specs.Bound.{Bound, with}
+use Rattle.merc_order.specs.Bound.{Bound}
 use Rattle.merc_order_laws.specs.Bindings.{Variables}
 use Rattle.merc_order_laws.specs.GoodTree.{GoodNode}
 use Rattle.merc_meaning.specs.Trace.{Env}

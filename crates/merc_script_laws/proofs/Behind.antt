@@ -1,9 +1,13 @@
 -- Behind a fork: what the branch has there, and the waits for the outputs of the parallel conjunction, each of which comes through an own cell of the fork.
 use Rattle.std.proofs.Common.{◌≡◌, ◌⊎◌, inl, inr, ℕ, ◌≤◌, ◌<◌, Bool, true, false, not, ◌==◌, if◌then◌else◌, List, [], ◌∷◌, ◌++◌, length, map, filter, Option, Some, None, refl, ap, sym, subst, ◌∙◌, arith}
-use Rattle.merc_graded_tree.specs.Nodes.{Node, Nodes}
+use Rattle.merc_tree.specs.declared.declarations.Module.{Module}
+use Rattle.merc_graded_tree.specs.Nodes.{Node, Nodes, outputs_of}
 use Rattle.merc_graded_tree.specs.Variables.{among, in_node}
 use Rattle.merc_order.specs.Bound.{Bound, with}
-use Rattle.merc_order_laws.specs.Bindings.{AreFree}
+use Rattle.merc_order.specs.Procedures.{modes_of}
+use Rattle.merc_grading.specs.Known.{Known}
+use Rattle.merc_order_laws.specs.Bindings.{Variables, AreFree}
+use Rattle.merc_order_laws.specs.GoodTree.{GoodNode}
 use Rattle.merc_order_laws.proofs.Facts.{clash, or_left, or_right, or_cases, either_way, and_left}
 use Rattle.merc_value.specs.Value.{Value}
 use Rattle.merc_meaning.specs.Trace.{Env}
@@ -19,14 +23,15 @@ use Rattle.merc_plan.specs.Branch.{HeldWait, HeldSignal, Hold, NamedCell, Gift, 
 use Rattle.merc_plan.specs.Hold.{named, own_waits, child_for, moves_from, stays, waits_kept, signals_kept, hold_behind}
 use Rattle.merc_plan.proofs.Judging.{uses}
 use Rattle.merc_plan.proofs.Sets.{absent, in_right, minus_keeps, same_number}
-use Rattle.merc_program_laws.proofs.Values.{none_not}
+use Rattle.merc_program_laws.proofs.Values.{Instance, none_not, is_some_of}
+use Rattle.merc_program_laws.proofs.Lawful.{Fits}
 use Rattle.merc_script_laws.specs.Parallel.{all_outputs}
-use Rattle.merc_script_laws.proofs.Bonds.{Set, Here, Owed, signs, Within, Fit, Match, Names, Moves}
+use Rattle.merc_script_laws.proofs.Bonds.{Set, Here, Owed, signs, Within, Fit, Fine, Match, Names, Moves}
 use Rattle.merc_script_laws.proofs.RightLists.{not_not, equal_is, equal_same, variables_of, right_first, right_rest, right_cases, not_for}
 use Rattle.merc_script_laws.proofs.Members.{Member, member_left, member_right, member_either, passing, passes, made_from, is_made, numbered, number_in, distinct_same, distinct_passing, distinct_both, map_both, filter_none, filter_all}
 use Rattle.merc_script_laws.proofs.Cells.{goes, own_wait_cells, own_wait_variables, same_variables, of_info, name_of, names_distinct, name_apart, waits_moved, goes_some, wait_found, finds_wait}
 use Rattle.merc_script_laws.proofs.Sites.{nth, among_has, maker_of, output_cell, fact, waited_distinct}
-use Rattle.merc_script_laws.proofs.SiteMoves.{wait_child, child_signal, no_signal, no_wait_moves, free_distinct, is_free}
+use Rattle.merc_script_laws.proofs.SiteMoves.{wait_child, child_signal, no_signal, no_wait_moves, free_distinct, is_free, good_free, good_occurs}
 use Rattle.merc_script_laws.proofs.Steps.{joins_left, joins_right, Waits}
 use Rattle.merc_script_laws.proofs.Holding.{Waitable, wait_variables_of, wait_cells_of}
 
@@ -57,6 +62,18 @@ stays_none (Some k) h = clash h refl
 none_stays : (o : Option ℕ) → o ≡ None → stays o ≡ true
 none_stays None h = refl
 none_stays (Some k) h = absurd cc
+
+-- Outputs have no values before their goal.
+module _ (known : Module) (types i : Instance) (out : Variables) (b : Bound) (n : Node) (good : GoodNode (modes_of known.preds) out b n) (seen : Known) (hold : Hold) where
+  output_free : (x : ℕ) → among (outputs_of n) x ≡ true → b x ≡ false
+  output_free x h = is_free b x (outputs_of n) (good_free (modes_of known.preds) out b n good) (among_has x (outputs_of n) h)
+
+  pub empty_fine : Fine known types i out b (in_node n) seen hold → (x : ℕ) (v : Value) → among (outputs_of n) x ≡ true → Here hold x v → ⊥
+  empty_fine fine x v h e = clash (fine.exact x v (good_occurs (modes_of known.preds) out b n good x h) e) (output_free x h)
+
+  pub empty_fits : (w : List Right) (full : Env) → Fits known types i out b (in_node n) seen full → Match w hold full → (x : ℕ) (v : Value) → among (outputs_of n) x ≡ true → Here hold x v → ⊥
+  empty_fits w full fits t x v h e =
+      clash (is_some_of (value_at full x) v (t.same x v e)) (fits.bounds x (good_occurs (modes_of known.preds) out b n good x h) ∙ output_free x h)
 
 -- those of a kind stay where each of this kind passes
 agree_case : {A : Type 0} (p q : A → Bool) (x : A) (xs : List A) (c d : Bool) → p x ≡ c → q x ≡ d → (c ≡ true → d ≡ true) → filter p (filter q xs) ≡ filter p xs
