@@ -114,6 +114,12 @@ fit = (refl, (tt, tt))
 fit_not : TasksFit declared types (Learn c red ∷ Grade (is_red n) ∷ []) → ⊥
 fit_not fit = let wrong : None ≡ Some (red ∷ green ∷ []) = fit.1.0 in cc
 
+fit_beside : TasksFit declared types (Beside (is_red c) ∷ Recall (is_red n) ∷ [])
+fit_beside = (refl, (tt, tt))
+
+fit_beside_not : TasksFit declared types (Beside (is_red n) ∷ []) → ⊥
+fit_beside_not fit = let wrong : None ≡ Some (red ∷ green ∷ []) = fit.0 in cc
+
 -- how many goals there are
 
 one_is_left : count_after_all (Close (of (Negation (is_red c))) ∷ Forget 0 ∷ Grade (is_red c) ∷ []) 4 ≡ 5
@@ -124,6 +130,14 @@ enough = (omega arith, (tt, tt))
 
 too_few : AreEnough (Close twice ∷ Grade (is_red c) ∷ []) 0 → ⊥
 too_few few = let wrong : 2 ≤ 1 = few.0 in absurd (omega (arith, wrong))
+
+-- a task that looks at the last goal needs one
+
+one_to_look_at : AreEnough (Withhold 3 ∷ Beside (is_red c) ∷ []) 0
+one_to_look_at = (omega arith, (tt, tt))
+
+none_to_look_at : AreEnough (Recall twice ∷ Tell twice ∷ []) 0 → ⊥
+none_to_look_at few = let wrong : 1 ≤ 0 = few.0 in absurd (omega (arith, wrong))
 
 -- turns: a goal alone takes its own and that of closing it
 
