@@ -1,5 +1,5 @@
 -- The tasks that a goal is planned as lead to what the goal leads to.
-use Rattle.std.specs.Prelude.{◌≡◌, ◌-◌, ℕ, suc, Bool, true, false, List, [], ◌∷◌, ◌++◌, length, drop, Some, refl, slice_get, if◌then◌else◌}
+use Rattle.std.specs.Prelude.{◌≡◌, ◌-◌, ℕ, suc, Bool, true, false, List, [], ◌∷◌, ◌++◌, length, drop, Some, refl, if◌then◌else◌}
 use Rattle.std.proofs.Common.{◌∙◌, ap, sym, subst, arith}
 use Rattle.std.proofs.Math.Nat.{add-sub_cancel}
 use Rattle.std.proofs.Math.Seq.{drop-append_seam}
@@ -17,7 +17,7 @@ use Rattle.merc_graded_tree.specs.declared.entries.Running.TheVariants.{Sequenti
 use Rattle.merc_graded_tree.specs.Nodes.{Node, node, Goal, Basic, Conjunction, Disjunction, Switch, Conditional, Negation, Quantified, Nodes, no_nodes, more_nodes, Arms, no_arms, more_arms, list_of, goal_of}
 use Rattle.merc_graded_tree.specs.Roots.{symbols_of, bodies_of, root_of, goals_in, label_of, arity_of, joining, last_joined}
 use Rattle.merc_graded_tree.specs.RootLaws.{arity_is, joining_is, last_joined_is}
-use Rattle.merc_grading.specs.Categories.{category, is_zero, is_many, both_most, then_category, conjunction_category, once}
+use Rattle.merc_grading.specs.Categories.{category, is_zero, both_most, then_category, conjunction_category}
 use Rattle.merc_grading.specs.Grading as grading
 use Rattle.merc_grading.specs.Grading.{capped, categories, category_at, handed_on}
 use Rattle.merc_grading.specs.Known.{Known, known_behind, known_behind_all, known_behind_goal}
@@ -26,7 +26,7 @@ use Rattle.merc_det.specs.Folding.{category_in}
 use Rattle.merc_det.specs.Seen.{back_to}
 use Rattle.merc_det.specs.Tasks.{conjunct_task, tasks_in_turn, tell_tasks, inner_tells, last_has_none, choice_tasks, arm_tasks, recall_tasks, inner_tasks, plan, Progress, after, after_all}
 use Rattle.merc_det.specs.declared.planning.Task.{Task}
-use Rattle.merc_det.specs.declared.planning.Task.TheVariants.{Grade, Beside, Withhold, Recall, Tell, Learn, Forget, Close}
+use Rattle.merc_det.specs.declared.planning.Task.TheVariants.{Grade, Beside, Withhold, Tell, Learn, Forget, Close}
 use Rattle.merc_det.proofs.Extending.{Extends, behind, chain, forgotten, one_more, same}
 use Rattle.merc_det.proofs.SeenLaws.{slice_get-last}
 

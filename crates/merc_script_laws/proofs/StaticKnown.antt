@@ -22,7 +22,7 @@ use Rattle.merc_order_laws.proofs.Facts.{clash, or_left}
 use Rattle.merc_order_laws.proofs.Written.{all_left, all_right}
 use Rattle.merc_grading.specs.Categories.{conjunction_category}
 use Rattle.merc_grading.specs.Known.{same_symbol, symbols_of_type, is_single, Known, known_of, known_behind_basic, known_behind, known_behind_goal, known_behind_all}
-use Rattle.merc_grading.specs.Grading.{split_category, given, category_at, categories, handed_on, basic_category, rule}
+use Rattle.merc_grading.specs.Grading.{split_category, given, category_at, categories, basic_category, rule}
 use Rattle.merc_value.specs.Value.{Value, Values}
 use Rattle.merc_meaning.specs.Values.{fields}
 use Rattle.merc_meaning.specs.Steps.{bound}
