@@ -1,37 +1,36 @@
 -- Goals that hold no others, calls aside, beside other branches: where what they read is here, they do what they do in the trace.
-use Rattle.std.proofs.Common.{◌≡◌, ◌⊎◌, inl, inr, ℕ, Bool, true, false, ◌==◌, is_some, List, [], ◌∷◌, Option, Some, None, refl, ap, sym, ◌∙◌, subst}
+use Rattle.std.proofs.Common.{◌≡◌, inl, inr, ℕ, Bool, true, false, is_some, List, [], ◌∷◌, Option, Some, None, refl, ap, sym, ◌∙◌, subst}
 use Rattle.merc_tree.specs.declared.declarations.Module.{Module}
 use Rattle.merc_base.specs.declared.category.Category.{Category}
 use Rattle.merc_base.specs.declared.place.Span.{Span}
 use Rattle.merc_goal_tree.specs.declared.goal.Operation.{Operation}
-use Rattle.merc_goal_tree.specs.declared.goal.Symbol.{Symbol}
 use Rattle.merc_graded_tree.specs.declared.basic.BasicGoal.{BasicGoal}
 use Rattle.merc_graded_tree.specs.declared.basic.BasicGoal.TheVariants.{True, Fail, Assign, Test, Build, Split, Arithmetic, Compare, Raise, Call, Wait, Signal}
 use Rattle.merc_graded_tree.specs.declared.basic.Procedure.{Procedure}
-use Rattle.merc_graded_tree.specs.Nodes.{Node, node, Goal, Basic}
+use Rattle.merc_graded_tree.specs.Nodes.{Node, node, Basic}
 use Rattle.merc_graded_tree.specs.Variables.{variables_of, in_goal}
 use Rattle.merc_order.specs.Bound.{Bound, among}
 use Rattle.merc_order_laws.specs.Bindings.{Variables, AreBound}
 use Rattle.merc_order_laws.proofs.Facts.{clash}
 use Rattle.merc_grading.specs.Known.{Known}
 use Rattle.merc_value.specs.Value.{Value, Int, Text, Con, Values, none, more}
-use Rattle.merc_meaning.specs.Trace.{Env, Trace, Ends, Done as TraceDone, one_answer}
+use Rattle.merc_meaning.specs.Trace.{Env, Trace}
 use Rattle.merc_meaning.specs.Values.{fields, same}
 use Rattle.merc_meaning.specs.Arithmetic.{Result, Gives, ZeroDivisor, arithmetic, comparison_of}
 use Rattle.merc_meaning.specs.Steps.{value_at, bound, binds, tested, compared, joined, values_at, made_if, filled, filled_if, split, computed, operated, raised}
 use Rattle.merc_meaning.specs.Runs.{Program, answers_once, basic_trace}
 use Rattle.merc_program_laws.specs.GoodPrograms.{AreGoodTypes}
-use Rattle.merc_program_laws.proofs.Values.{Instance, none_not, some_of, same_number, among_here, among_there, among_cases, among_one, at_same, at_other}
+use Rattle.merc_program_laws.proofs.Values.{Instance, none_not, some_of, same_number, among_here, among_there, among_cases, at_same, at_other}
 use Rattle.merc_program_laws.proofs.Steps.{filled_other, filled_bound, fields_typed, free_not}
 use Rattle.merc_program_laws.proofs.Lawful.{Fits}
 use Rattle.merc_par_split.specs.Split.{nothing}
 use Rattle.merc_plan.specs.Branch.{Hold, BranchCourse}
 use Rattle.merc_plan.specs.Hold.{with_env}
 use Rattle.merc_plan.specs.Branches.{Plan, traced, basic_branch}
-use Rattle.merc_plan.proofs.Flat.{Flat, Like, events}
+use Rattle.merc_plan.proofs.Flat.{Like, events}
 use Rattle.merc_plan.proofs.Judging.{flat, Sure, Quiet}
 use Rattle.merc_plan.proofs.Holds.{quiet_once}
-use Rattle.merc_script_laws.proofs.Bonds.{Set, Here, Fit, Fine, Match, Names, Moves, Kept, Ends as EndsAlike, Ready, Sound}
+use Rattle.merc_script_laws.proofs.Bonds.{Set, Fit, Match, Ends as EndsAlike, Ready, Sound}
 use Rattle.merc_script_laws.proofs.HoldLaw.{is_here}
 use Rattle.merc_script_laws.proofs.Leaf.{Leaf, moves_env, moves_none, wrap, traced_like, traced_sure, traced_quiet}
 

@@ -1,5 +1,5 @@
 -- Calls beside other branches: where their inputs are here, they do what they do in the trace.
-use Rattle.std.proofs.Common.{◌≡◌, ◌⊎◌, inl, inr, ℕ, zero, suc, ◌<◌, Bool, true, false, ◌==◌, is_some, List, [], ◌∷◌, length, Option, Some, None, slice_get, refl, ap, sym, ◌∙◌, subst, arith}
+use Rattle.std.proofs.Common.{◌≡◌, ◌⊎◌, inl, inr, ℕ, zero, suc, ◌<◌, true, false, ◌==◌, is_some, List, [], ◌∷◌, length, Option, Some, None, slice_get, refl, ap, sym, ◌∙◌, subst, arith}
 use Rattle.merc_base.specs.declared.category.Category.{Category}
 use Rattle.merc_base.specs.declared.place.Span.{Span}
 use Rattle.merc_tree.specs.Types.{TypeExpr}
@@ -11,16 +11,14 @@ use Rattle.merc_tree.specs.declared.declarations.Module.{Module}
 use Rattle.merc_graded_tree.specs.declared.basic.BasicGoal.{BasicGoal}
 use Rattle.merc_graded_tree.specs.declared.basic.BasicGoal.TheVariants.{True, Fail, Assign, Test, Build, Split, Arithmetic, Compare, Raise, Call, Wait, Signal}
 use Rattle.merc_graded_tree.specs.declared.basic.Procedure.{Procedure}
-use Rattle.merc_graded_tree.specs.Nodes.{Node, node, Goal, Basic}
-use Rattle.merc_graded_tree.specs.Variables.{in_goal}
+use Rattle.merc_graded_tree.specs.Nodes.{node, Basic}
 use Rattle.merc_type_check.specs.Typing.{HaveTypes as VariablesHave, IsCalled}
 use Rattle.merc_order.specs.Bound.{Bound, among}
 use Rattle.merc_order.specs.CallModes.{inputs_of}
-use Rattle.merc_order.specs.Procedures.{modes_in, modes_of}
+use Rattle.merc_order.specs.Procedures.{modes_in}
 use Rattle.merc_order_laws.specs.Bindings.{Variables, AreBound}
 use Rattle.merc_order_laws.specs.GoodTree.{written_by, GoodProcedure}
 use Rattle.merc_order_laws.proofs.Facts.{clash}
-use Rattle.merc_grading.specs.Known.{Known}
 use Rattle.merc_value.specs.Value.{Value}
 use Rattle.merc_meaning.specs.Trace.{Env, Trace, taken_back as t_taken}
 use Rattle.merc_meaning.specs.Steps.{value_at, with_entry, entered, brought_back}
@@ -30,7 +28,6 @@ use Rattle.merc_program_laws.specs.GoodPrograms.{AreGoodTypes}
 use Rattle.merc_program_laws.specs.CategoryLaws.{Enters, IsProcedure}
 use Rattle.merc_program_laws.proofs.Values.{Instance, composed, some_of, is_some_of, same_number, among_here, among_there, among_cases}
 use Rattle.merc_program_laws.proofs.Steps.{EnvTyped, free_not}
-use Rattle.merc_program_laws.proofs.Lawful.{Fits}
 use Rattle.merc_program_laws.proofs.Calls.{LawfulCall, LawfulCalls, brought_other, entered_bound, entered_typed}
 use Rattle.merc_par_split.specs.Split.{nothing}
 use Rattle.merc_plan.specs.Branch.{Hold, BranchCourse, taken_back as c_taken}
@@ -42,7 +39,7 @@ use Rattle.merc_plan.proofs.Likes.{like_taken}
 use Rattle.merc_plan.proofs.Flats.{flat_taken, sure_taken}
 use Rattle.merc_plan.proofs.Events.{events_taken}
 use Rattle.merc_plan.proofs.Holds.{quiet_taken, quiet_once}
-use Rattle.merc_script_laws.proofs.Bonds.{Set, Here, Fit, Fine, Match, Names, Ends, Ready, Sound}
+use Rattle.merc_script_laws.proofs.Bonds.{Set, Here, Fit, Match, Ends, Ready}
 use Rattle.merc_script_laws.proofs.HoldLaw.{hold_fits}
 use Rattle.merc_script_laws.proofs.Leaf.{Leaf, moves_env, wrap}
 use Rattle.merc_script_laws.proofs.BasicLeaves.{read, Under, among_not, not_valued, unset, leaf_plain}

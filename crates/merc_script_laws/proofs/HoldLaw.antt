@@ -1,7 +1,6 @@
 -- The category law from what a branch has: where all that a goal uses of what is bound is here, it goes on as the law says.
-use Rattle.std.proofs.Common.{◌≡◌, ◌⊎◌, inl, inr, ℕ, Bool, true, false, ◌||◌, is_some, List, [], ◌∷◌, Option, Some, None, refl, ap, sym, ◌∙◌, subst}
+use Rattle.std.proofs.Common.{◌≡◌, inl, inr, ℕ, Bool, true, false, is_some, [], Some, refl, ap, sym, ◌∙◌}
 use Rattle.merc_base.specs.Category.{can_fail_of, most_of}
-use Rattle.merc_base.specs.declared.category.Category.{Category}
 use Rattle.merc_base.specs.declared.category.Most.{Most}
 use Rattle.merc_base.specs.declared.category.Most.TheVariants.{Zero, One, Many}
 use Rattle.merc_tree.specs.declared.declarations.Module.{Module}
@@ -27,10 +26,10 @@ use Rattle.merc_program_laws.proofs.Lawful.{Fits, Goes, Lawful}
 use Rattle.merc_program_laws.proofs.Calls.{LawfulCalls}
 use Rattle.merc_program_laws.proofs.TreeCategories.{node_law}
 use Rattle.merc_plan.specs.Branch.{Hold}
-use Rattle.merc_plan.proofs.Flat.{Flat, Done, Halts, Tick, Answer, NotDone, Each, Like, events}
+use Rattle.merc_plan.proofs.Flat.{Flat, NotDone, Each, Like, events}
 use Rattle.merc_plan.proofs.Likes.{like_with, like_answers, each_all, each_more}
 use Rattle.merc_script_laws.proofs.Bonds.{Set, Here, Fit, Fine, After, Moves, Ends, Ready, Sound}
-use Rattle.merc_script_laws.proofs.Seen.{Agree, agree_back, behind_agree, behind_other, graded_same, known_in_other, known_in_same, occurring, occurring_agrees}
+use Rattle.merc_script_laws.proofs.Seen.{agree_back, behind_agree, behind_other, graded_same, known_in_other, known_in_same, occurring, occurring_agrees}
 
 -- Traces.
 

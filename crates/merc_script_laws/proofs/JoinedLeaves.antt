@@ -1,12 +1,11 @@
 -- Disjunctions and negations beside other branches: nothing is pushed into them.
-use Rattle.std.proofs.Common.{◌≡◌, ◌⊎◌, inl, inr, ℕ, Bool, true, false, ◌||◌, List, [], ◌∷◌, ◌++◌, Option, Some, None, refl, ap, sym, ◌∙◌, subst}
+use Rattle.std.proofs.Common.{◌≡◌, inl, inr, ℕ, Bool, true, List, [], ◌∷◌, ◌++◌, Option, refl, ap, sym, ◌∙◌, subst}
 use Rattle.std.specs.List.{AllByRecursion}
-use Rattle.merc_base.specs.Category.{most_of}
 use Rattle.merc_base.specs.declared.category.Category.{Category}
 use Rattle.merc_base.specs.declared.place.Span.{Span}
 use Rattle.merc_tree.specs.declared.declarations.Module.{Module}
 use Rattle.merc_graded_tree.specs.declared.basic.Procedure.{Procedure}
-use Rattle.merc_graded_tree.specs.Nodes.{Node, node, Goal, Disjunction, Negation, Nodes, no_nodes, more_nodes, outputs_of}
+use Rattle.merc_graded_tree.specs.Nodes.{Node, node, Disjunction, Negation, Nodes, no_nodes, more_nodes, outputs_of}
 use Rattle.merc_graded_tree.specs.Variables.{in_node, in_nodes}
 use Rattle.merc_order.specs.Bound.{Bound, among}
 use Rattle.merc_order.specs.Procedures.{modes_of}
@@ -16,7 +15,6 @@ use Rattle.merc_order_laws.specs.WrittenGoals.{basic_goals, all_basic_goals}
 use Rattle.merc_order_laws.proofs.Facts.{clash, or_left, or_right}
 use Rattle.merc_order_laws.proofs.Written.{all_left, all_right}
 use Rattle.merc_grading.specs.Known.{Known}
-use Rattle.merc_grading.specs.Grading.{category_at}
 use Rattle.merc_grading.specs.Faults.{parallel_faults, all_faults}
 use Rattle.merc_meaning.specs.Trace.{Env, Trace, after as t_after, negated as t_negated}
 use Rattle.merc_meaning.specs.Runs.{Program, answers_once, node_trace, any_trace}
@@ -38,7 +36,7 @@ use Rattle.merc_plan.proofs.Flats.{flat_after, sure_after, flat_negated, sure_ne
 use Rattle.merc_plan.proofs.Events.{events_after, events_negated}
 use Rattle.merc_plan.proofs.Holds.{quiet_after, quiet_negated, quiet_once}
 use Rattle.merc_script_laws.specs.Parallel.{AreWithin, ArmHas, EachKeepsOutputs, AllHaveFew}
-use Rattle.merc_script_laws.proofs.Bonds.{Set, Here, Fit, Fine, Match, Names, Moves, Ends, Ready, Sound, Goes}
+use Rattle.merc_script_laws.proofs.Bonds.{Set, Fit, Fine, Match, Names, Moves, Ends, Ready, Sound, Goes}
 use Rattle.merc_script_laws.proofs.HoldLaw.{each_event}
 use Rattle.merc_script_laws.proofs.Leaf.{Leaf, moves_none, wrap}
 

@@ -1,10 +1,10 @@
 -- Goals into which no rights are pushed.
-use Rattle.std.proofs.Common.{◌≡◌, ℕ, zero, suc, ◌⊎◌, inl, inr, Bool, true, false, List, [], ◌∷◌, Option, Some, None, refl, ap, sym, subst, ◌∙◌}
+use Rattle.std.proofs.Common.{◌≡◌, ℕ, Bool, true, List, [], Option, Some, refl, sym, subst, ◌∙◌}
 use Rattle.merc_base.specs.declared.category.Category.{Category}
 use Rattle.merc_base.specs.declared.place.Span.{Span}
 use Rattle.merc_tree.specs.declared.declarations.Module.{Module}
 use Rattle.merc_graded_tree.specs.declared.basic.Procedure.{Procedure}
-use Rattle.merc_graded_tree.specs.Nodes.{Node, node, Goal}
+use Rattle.merc_graded_tree.specs.Nodes.{node, Goal}
 use Rattle.merc_graded_tree.specs.Variables.{in_goal}
 use Rattle.merc_order.specs.Bound.{Bound, among}
 use Rattle.merc_order_laws.specs.Bindings.{Variables}
@@ -17,7 +17,7 @@ use Rattle.merc_meaning.specs.Runs.{Program, once_if as t_once, node_trace}
 use Rattle.merc_program_laws.proofs.Values.{Instance}
 use Rattle.merc_program_laws.proofs.Lawful.{Fits}
 use Rattle.merc_par_split.specs.Split.{nothing}
-use Rattle.merc_plan.specs.Branch.{HeldWait, Hold, BranchCourse}
+use Rattle.merc_plan.specs.Branch.{Hold, BranchCourse}
 use Rattle.merc_plan.specs.Hold.{with_env}
 use Rattle.merc_plan.specs.Branches.{Plan, once_if as c_once, traced, node_branch}
 use Rattle.merc_plan.proofs.Flat.{Flat, Done, Halts, Tick, Answer, Like, once_if, events}
@@ -25,7 +25,7 @@ use Rattle.merc_plan.proofs.Judging.{flat, Sure, Quiet}
 use Rattle.merc_plan.proofs.Likes.{like_once}
 use Rattle.merc_plan.proofs.Flats.{flat_once, sure_once}
 use Rattle.merc_plan.proofs.Events.{events_once}
-use Rattle.merc_script_laws.proofs.Bonds.{Set, Here, Owed, Fit, Fine, Match, Names, Moves, Kept, Ends, Ready, Sound}
+use Rattle.merc_script_laws.proofs.Bonds.{Set, Owed, Fit, Fine, Match, Names, Moves, Ends, Ready, Sound}
 
 -- Given are the program of the graded trees with the traces of its calls, and the plan and the program of the split trees with the courses of its calls.
 module _ (known : Module) (types i : Instance) (program : Program) (calls : Procedure → Env → Trace) (plan : Plan) (split : Program) (course : Procedure → Hold → BranchCourse) where

@@ -1,5 +1,5 @@
 -- A goal into which nothing is pushed keeps to the rights of its branch: it leaves them as they are.
-use Rattle.std.proofs.Common.{◌≡◌, ◌⊎◌, inl, inr, ℕ, ◌<◌, ◌==◌, Bool, true, false, List, [], ◌∷◌, map, Option, Some, None, refl, ap, sym, subst, ◌∙◌}
+use Rattle.std.proofs.Common.{◌≡◌, ℕ, ◌<◌, ◌==◌, Bool, true, false, List, [], map, Option, refl, ap}
 use Rattle.std.specs.List.{filter}
 use Rattle.merc_base.specs.Category.{can_fail_of, most_of}
 use Rattle.merc_base.specs.declared.category.Category.{Category}
@@ -24,12 +24,11 @@ use Rattle.merc_program_laws.proofs.Calls.{LawfulCalls}
 use Rattle.merc_par_split.specs.Split.{nothing}
 use Rattle.merc_plan.specs.Branch.{HeldSignal, Hold, Gift, BranchCourse}
 use Rattle.merc_plan.specs.Branches.{Plan, node_branch}
-use Rattle.merc_plan.proofs.Flat.{Flat, Each, NotDone, Like, events}
-use Rattle.merc_plan.proofs.Judging.{flat, Sure, Keeps, Quiet}
+use Rattle.merc_plan.proofs.Flat.{Like, events}
+use Rattle.merc_plan.proofs.Judging.{flat, Keeps, Quiet}
 use Rattle.merc_plan.proofs.Likes.{like_notdone, each_more}
 use Rattle.merc_plan.proofs.Holds.{StillHeld, quiet_ends}
-use Rattle.merc_core.specs.Rights.{has}
-use Rattle.merc_script_laws.proofs.Bonds.{Set, Here, signs, Fit, Fine, After, Match, Names, Moves, Ends, Ready, Used, Sound}
+use Rattle.merc_script_laws.proofs.Bonds.{Set, Fit, Fine, After, Match, Names, Moves, Ends, Ready, Used, Sound}
 use Rattle.merc_script_laws.proofs.Seen.{graded_same, occurring, occurring_agrees}
 use Rattle.merc_script_laws.proofs.HoldLaw.{hold_fits, hold_not_done, leaf_answers, Answered}
 use Rattle.merc_script_laws.proofs.Leaf.{Leaf}

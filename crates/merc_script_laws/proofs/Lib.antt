@@ -16,9 +16,9 @@ pub mod OutputsSpelt
 pub mod OutputsFound
 pub mod OutputsGraded
 pub mod OutputsAccepted
-pub mod StaticKnown
 pub mod Sides
 pub mod Runs
+pub mod StaticKnown
 pub mod Beside
 pub mod FewWritten
 pub mod FewForms
@@ -38,3 +38,16 @@ pub mod Switches
 pub mod Conditions
 pub mod Conditionals
 pub mod PlacedGoals
+pub mod Members
+pub mod Cells
+pub mod Sites
+pub mod SiteMoves
+pub mod Counts
+pub mod Static
+pub mod Placed
+pub mod Kids
+pub mod Conjuncts
+pub mod Dets
+pub mod Begins
+pub mod Behind
+pub mod BehindWaits

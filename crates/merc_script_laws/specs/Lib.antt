@@ -1,2 +1,3 @@
 pub mod Parallel
 pub mod ScriptLaws
+pub mod ParallelExamples
