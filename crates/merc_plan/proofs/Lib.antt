@@ -21,3 +21,4 @@ pub mod Plays
 pub mod PlaysNodes
 pub mod Standing
 pub mod StandingAt
+pub mod Telling
