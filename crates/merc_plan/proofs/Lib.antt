@@ -22,3 +22,4 @@ pub mod PlaysNodes
 pub mod Standing
 pub mod StandingAt
 pub mod Telling
+pub mod TellingNodes
