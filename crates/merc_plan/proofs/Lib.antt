@@ -23,3 +23,4 @@ pub mod Standing
 pub mod StandingAt
 pub mod Telling
 pub mod TellingNodes
+pub mod Knowing
