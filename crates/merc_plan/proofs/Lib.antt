@@ -24,3 +24,5 @@ pub mod StandingAt
 pub mod Telling
 pub mod TellingNodes
 pub mod Knowing
+pub mod Placing
+pub mod Valuing
