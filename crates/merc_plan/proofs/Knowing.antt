@@ -6,19 +6,18 @@ use Rattle.std.proofs.lemmas.Bool.Decides.{nat_tests}
 use Rattle.merc_value.specs.Value.{Value}
 use Rattle.merc_script.specs.declared.outcome.Outcome.{Outcome}
 use Rattle.merc_script.specs.declared.outcome.Outcome.TheVariants.{Ok as Fine, Raise, Limit, Starved, NoMemory}
-use Rattle.merc_script.specs.declared.cells.Move.{Move}
 use Rattle.merc_script.specs.Script.{Script, Ends, Children, ends}
 use Rattle.merc_script.specs.Joining.{joined}
 use Rattle.merc_core.specs.Rights.{has, without, moved, moved_to}
-use Rattle.merc_plan.specs.Branch.{NamedCell, Fork, Hold, BranchCourse, Over, Breaks, Steps, Finds, Awaits, Gives, Forks, BranchCourses, no_branches, more_branches, Raised, TooDeep, Starving, names, Gift, gift_at, gifts_through, value_given, gives, all_give}
+use Rattle.merc_plan.specs.Branch.{NamedCell, Fork, BranchCourse, Over, Breaks, Steps, Finds, Awaits, Gives, Forks, BranchCourses, no_branches, more_branches, names, Gift, gift_at, gifts_through, value_given, gives, all_give}
 use Rattle.merc_plan.specs.BranchScript.{those_of, signalled, all_signalled, going, script, scripts}
-use Rattle.merc_plan.proofs.Judging.{AllAnswer, kid_count, makes, uses, signals_to, waits_to, NamedFits, MoveGoes, HoldsRight, SiteFits, OwnFits, Whole, anything, Keeps, AllKeep, Quiet, told_values}
+use Rattle.merc_plan.proofs.Judging.{AllAnswer, kid_count, makes, uses, signals_to, waits_to, NamedFits, MoveGoes, HoldsRight, SiteFits, Whole, anything, Keeps, AllKeep, Quiet, told_values}
 use Rattle.merc_plan.proofs.Holds.{waits_past, pending_past, kid_proper, names_of_made, own_fits}
 use Rattle.merc_plan.proofs.Gives.{Within, AllWithin, within_gives}
 use Rattle.merc_plan.proofs.Standing.{IfFine, IsGiven, IfGiven, Valued, AllValued}
-use Rattle.merc_plan.proofs.Forms.{told, value_of, Given, own_value, outer_value, fine_kids_answer, moved_right, sig_only, all_only, moved_not_own, one_maker, alone, not_its, not_none, sig_given, all_given, signalled_going, same_test, in_front, in_rest, not_moved_to}
+use Rattle.merc_plan.proofs.Forms.{told, value_of, Given, own_value, outer_value, fine_kids_answer, moved_right, sig_only, all_only, moved_not_own, one_maker, alone, not_none, sig_given, all_given, signalled_going, same_test, in_front, in_rest, not_moved_to}
 use Rattle.merc_plan.proofs.Telling.{known_anew, Tells, AllTell, agree_same}
-use Rattle.merc_plan.proofs.Sets.{clash, tell, same_number, is_same, only_one, first_in, in_common, common_in, in_either, in_left, in_right, minus_in, minus_keeps, gone_not, absent, look_before, look_past, look_same, look_none, some_now, gifts_in, gifts_out, given_here, given_other, picked, each_true, moved_to_move, moved_of_to}
+use Rattle.merc_plan.proofs.Sets.{clash, tell, same_number, is_same, only_one, first_in, in_common, common_in, in_either, in_left, minus_in, minus_keeps, gone_not, absent, look_before, look_past, look_same, look_none, some_now, gifts_in, gifts_out, given_here, given_other, picked, each_true, moved_to_move, moved_of_to}
 
 -- a right to signal is for another cell than each right to wait
 abbrev pub Apart : (ℕ → Bool) → List ℕ → Type 0
@@ -118,8 +117,7 @@ moved_wait : (n : ℕ) (rights : ℕ → Bool) (g : List Gift) (w : List ℕ) (x
     → (has c (names x.cells) ≡ false) × (has c w ≡ true)
 moved_wait n rights g w x k c f h =
     let m = moved_to_move (λ m. has m.cell (names x.cells) ≡ false) k false c x.moves f.fresh h in
-    let q = moved_to_move (MoveGoes n rights g w) k false c x.moves f.moves h in
-    (
+    let q = moved_to_move (MoveGoes n rights g w) k false c x.moves f.moves h in (
       sym (ap (λ z. has z (names x.cells)) m.1.1.0) ∙ m.1.0,
       subst (λ z. has z w ≡ true) q.1.1.0 (subst (λ (z : Bool). HoldsRight rights g w z q.0.cell) q.1.1.1.1 q.1.0.1.1),
     )

@@ -1,8 +1,7 @@
 -- In a split tree waits for what conjuncts bind stand directly behind their fork.
-use Rattle.std.proofs.Common.{◌≡◌, ℕ, zero, suc, ◌+◌, ◌≤◌, ◌<◌, ◌⊎◌, inl, inr, Bool, true, false, not, if◌then◌else◌, List, [], ◌∷◌, ◌++◌, length, map, filter, flat_map, slice_get, refl, ap, sym, subst, ◌∙◌, arith}
-use Rattle.std.specs.Prelude.{⊤, Option, Some, None, nat_eq, ◌==◌, ◌||◌}
+use Rattle.std.proofs.Common.{◌≡◌, ℕ, zero, suc, ◌+◌, ◌⊎◌, inl, inr, Bool, true, false, not, if◌then◌else◌, List, [], ◌∷◌, ◌++◌, length, map, filter, flat_map, slice_get, refl, ap, sym, subst, ◌∙◌, arith}
+use Rattle.std.specs.Prelude.{⊤, Option, Some, nat_eq, ◌==◌, ◌||◌}
 use Rattle.std.specs.List.{AllByRecursion}
-use Rattle.std.proofs.lemmas.Bool.Decides.{nat_tests}
 use Rattle.merc_base.specs.declared.category.Category.{Category}
 use Rattle.merc_base.specs.declared.category.Category.TheVariants.{Det}
 use Rattle.merc_base.specs.declared.place.Span.{Span}
@@ -23,7 +22,7 @@ use Rattle.merc_par_split.proofs.PlannedCounts.{planned_count}
 use Rattle.merc_plan.specs.Branches.{info_of, Plan}
 use Rattle.merc_plan.proofs.Sets.{clash, absent, or_either, same_number, front_or, or_in, rest_in}
 use Rattle.merc_plan.proofs.Givers.{each_append}
-use Rattle.merc_plan.proofs.TellingNodes.{bound_behind, removed, Prompt, prompt, PromptGoal, basic, in_turn, forked, any_of, switched, conditional, negation, quantified, AllPrompt, all_none, all_first, all_fork, all_wait, EachPrompt, each_none, each_first, ArmsPrompt, arms_none, arms_first}
+use Rattle.merc_plan.proofs.TellingNodes.{bound_behind, removed, Prompt, prompt, basic, in_turn, forked, any_of, switched, conditional, negation, quantified, AllPrompt, all_none, all_first, all_fork, all_wait, EachPrompt, each_none, each_first, ArmsPrompt, arms_none, arms_first}
 
 -- the conjuncts of each parallel conjunction bind a variable once at most for the goals behind it
 abbrev mutual
@@ -57,7 +56,7 @@ slice_front [] ys number info h = absurd (cc)
 slice_front (x ∷ xs) ys zero info h = h
 slice_front (x ∷ xs) ys (suc number) info h = slice_front xs ys number info h
 
-none_plus : (n : ℕ) → 0 + n ≡ n
+pub none_plus : (n : ℕ) → 0 + n ≡ n
 none_plus n = omega arith
 
 suc_plus : (m n : ℕ) → suc m + n ≡ suc (m + n)

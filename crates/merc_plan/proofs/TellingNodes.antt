@@ -1,6 +1,6 @@
 -- Each goal is told what is known, where rights to wait for a fork's own cells are used directly behind it.
-use Rattle.std.proofs.Common.{◌≡◌, ℕ, zero, suc, ◌+◌, ◌≤◌, ◌<◌, ◌⊎◌, inl, inr, Bool, true, false, not, if◌then◌else◌, List, [], ◌∷◌, ◌++◌, length, map, filter, refl, ap, sym, subst, ◌∙◌, arith}
-use Rattle.std.specs.Prelude.{⊤, Option, Some, None, nat_eq, ◌==◌}
+use Rattle.std.proofs.Common.{◌≡◌, ℕ, zero, suc, ◌+◌, ◌<◌, ◌⊎◌, inl, inr, Bool, true, false, if◌then◌else◌, List, [], ◌∷◌, ◌++◌, length, map, filter, refl, ap, sym, subst, ◌∙◌, arith}
+use Rattle.std.specs.Prelude.{⊤, Option, Some, None, ◌==◌}
 use Rattle.std.specs.List.{AllByRecursion}
 use Rattle.merc_base.specs.declared.category.Category.{Category}
 use Rattle.merc_base.specs.declared.place.Span.{Span}
@@ -14,19 +14,18 @@ use Rattle.merc_graded_tree.specs.declared.basic.Site.{Site}
 use Rattle.merc_graded_tree.specs.Nodes.{Node, node, Goal, Basic, Conjunction, Disjunction, Switch, Conditional, Negation, Quantified, Nodes, no_nodes, more_nodes, Arms, no_arms, more_arms}
 use Rattle.merc_meaning.specs.Values.{fields, same}
 use Rattle.merc_meaning.specs.Arithmetic.{comparison_of}
-use Rattle.merc_meaning.specs.Trace.{Env, Trace, Ends, Tick, Answer, Done, Raised as RaisedEnd, TooDeep as TooDeepEnd}
+use Rattle.merc_meaning.specs.Trace.{Trace, Ends, Tick, Answer, Done, Raised as RaisedEnd, TooDeep as TooDeepEnd}
 use Rattle.merc_meaning.specs.Steps.{value_at, with_entry, values_at, made_if, binds, compared, split, operated, raised, entered, brought_back}
 use Rattle.merc_meaning.specs.Runs.{Program, ProcedureBody, answers_once}
 use Rattle.merc_core.specs.Rights.{has}
 use Rattle.merc_par_split.specs.declared.sites.CellInfo.{CellInfo}
-use Rattle.merc_par_split.specs.declared.sites.Moved.{Moved}
 use Rattle.merc_par_split.specs.declared.sites.SiteInfo.{SiteInfo}
-use Rattle.merc_plan.specs.Branch.{HeldWait, HeldSignal, Hold, NamedCell, Fork, Gift, gift_at, value_given, BranchCourse, BranchCourses, Over, Breaks, Steps, Finds, Awaits, Gives, Forks, no_branches, more_branches, Starving, names, gives, all_give, each}
-use Rattle.merc_plan.specs.Hold.{holding, with_env, wait_for, without_wait, signal_for, without_signal, named, own_waits, child_for, goes_to, waits_into, stays, waits_kept, fork_of, conjunct_hold, hold_behind}
+use Rattle.merc_plan.specs.Branch.{HeldWait, Hold, NamedCell, Fork, Gift, gift_at, value_given, BranchCourse, BranchCourses, Over, Forks, names, gives, all_give, each}
+use Rattle.merc_plan.specs.Hold.{holding, with_env, wait_for, without_wait, signal_for, named, own_waits, child_for, goes_to, waits_into, stays, waits_kept, fork_of, conjunct_hold, hold_behind}
 use Rattle.merc_plan.specs.Branches.{first_name, one_answer, traced, awaited, signal_cell, signalled, once_if, called, where_some, taken_arm, info_of, Plan, basic_branch, goal_branch, node_branch, all_branch, any_branch, arms_branch, conjunct_branches, conjunct_gifts, body_branch, call_branch, root_branch}
-use Rattle.merc_plan.proofs.Sets.{clash, tell, is_same, first_in, rest_in, front_or, each_more, append_all, append_none}
+use Rattle.merc_plan.proofs.Sets.{first_in, rest_in, front_or, each_more, append_all, append_none}
 use Rattle.merc_plan.proofs.Givers.{each_filter, each_append, named_low}
-use Rattle.merc_plan.proofs.Telling.{known_anew, IsKnown, IsLow, Begins, HoldKnown, Agree, AreHigh, Tells, AllTell, agree_same, agree_both, not_own, agree_anew, low_agree, begins_agree, hold_agree, tells_after, tells_each, tells_taken, tells_once, tells_choose, tells_negated}
+use Rattle.merc_plan.proofs.Telling.{known_anew, IsKnown, IsLow, Begins, HoldKnown, Agree, AreHigh, Tells, AllTell, agree_anew, low_agree, begins_agree, hold_agree, tells_after, tells_each, tells_taken, tells_once, tells_choose, tells_negated}
 
 -- the variables that a fork's conjuncts bind for the goals behind it
 abbrev pub bound_behind : List CellInfo → List ℕ
@@ -58,9 +57,9 @@ module _ (plan : Plan) where
       all_none : AllPrompt [] no_nodes
       all_first : (first : Node) (rest : Nodes) → Prompt first → AllPrompt [] rest → AllPrompt [] (more_nodes first rest)
       all_fork : (site : Site) (goals : Nodes) (outputs : List ℕ) (category : Option Category) (span : Span) (rest : Nodes) → EachPrompt goals
-        → AllPrompt (bound_behind (info_of (plan site.number)).cells) rest → AllPrompt [] (more_nodes (node (Conjunction (Parallel (Some site)) goals) outputs category span) rest)
+          → AllPrompt (bound_behind (info_of (plan site.number)).cells) rest → AllPrompt [] (more_nodes (node (Conjunction (Parallel (Some site)) goals) outputs category span) rest)
       all_wait : (variable conjunct : ℕ) (outputs : List ℕ) (category : Option Category) (span : Span) (pending : List ℕ) (rest : Nodes)
-        → AllPrompt (removed variable pending) rest → AllPrompt pending (more_nodes (node (Basic (Wait variable conjunct)) outputs category span) rest)
+          → AllPrompt (removed variable pending) rest → AllPrompt pending (more_nodes (node (Basic (Wait variable conjunct)) outputs category span) rest)
 
     pub data EachPrompt : Nodes → Type 0 where
       each_none : EachPrompt no_nodes
@@ -215,17 +214,16 @@ own_anew known x gs c h = sym (ap (λ (b : Bool). if b then value_given (gift_at
 
 conjunct_known : (next : ℕ) (known : ℕ → Option Value) (info : SiteInfo) (k : ℕ) (goal : Node) (hold : Hold) (gs : List Gift) → HoldKnown next known hold
     → HoldKnown (hold.next + length info.cells) (known_anew known (fork_of info hold) gs) (conjunct_hold info k goal hold gs)
-conjunct_known next known info k goal hold gs w =
-    (
-      each_append (IsLow (hold.next + length info.cells) anew) (own_waits k gs (named hold.next info.cells)) (waits_into k info.moves hold.waits)
-          (both_known (hold.next + length info.cells) anew (own_waits k gs (named hold.next info.cells))
-          (own_below k gs (hold.next + length info.cells) (named hold.next info.cells) (λ c h. named_high hold.next info.cells c h))
-          (own_known_of anew k gs (named hold.next info.cells) (λ c h. own_anew known (fork_of info hold) gs c h)))
-          (each_filter (IsLow (hold.next + length info.cells) anew) (λ (right : HeldWait). goes_to k (child_for false right.variable info.moves)) hold.waits
-          (each_more (IsLow next known) (IsLow (hold.next + length info.cells) anew)
-          (λ right h. ((let l = h.0 in let e = w.1.0 in omega (arith, l, e)), h.1 ∙ sym (below right.cell h.0))) hold.waits w.0)),
-      (refl, ((let l = w.1.1.0 in let e = w.1.0 in omega (arith, l, e)), (let l = w.1.1.0 in below 0 (omega (arith, l))) ∙ w.1.1.1)),
-    )
+conjunct_known next known info k goal hold gs w = (
+  each_append (IsLow (hold.next + length info.cells) anew) (own_waits k gs (named hold.next info.cells)) (waits_into k info.moves hold.waits)
+      (both_known (hold.next + length info.cells) anew (own_waits k gs (named hold.next info.cells))
+      (own_below k gs (hold.next + length info.cells) (named hold.next info.cells) (λ c h. named_high hold.next info.cells c h))
+      (own_known_of anew k gs (named hold.next info.cells) (λ c h. own_anew known (fork_of info hold) gs c h)))
+      (each_filter (IsLow (hold.next + length info.cells) anew) (λ (right : HeldWait). goes_to k (child_for false right.variable info.moves)) hold.waits
+      (each_more (IsLow next known) (IsLow (hold.next + length info.cells) anew)
+      (λ right h. ((let l = h.0 in let e = w.1.0 in omega (arith, l, e)), h.1 ∙ sym (below right.cell h.0))) hold.waits w.0)),
+  (refl, ((let l = w.1.1.0 in let e = w.1.0 in omega (arith, l, e)), (let l = w.1.1.0 in below 0 (omega (arith, l))) ∙ w.1.1.1)),
+)
   where
     anew : ℕ → Option Value
     anew = known_anew known (fork_of info hold) gs

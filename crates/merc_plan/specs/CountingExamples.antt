@@ -1,5 +1,5 @@
 -- Worked examples of the steps of a script.
-use Rattle.std.specs.Prelude.{◌≡◌, ℕ, [], ◌∷◌, refl}
+use Rattle.std.specs.Prelude.{◌≡◌, [], refl}
 use Rattle.std.proofs.Common.{arith}
 use Rattle.merc_script.specs.declared.outcome.Outcome.TheVariants.{Ok as Fine, Limit}
 use Rattle.merc_script.specs.Script.{Script, Ends, TickThen, ForkThen, NoChild, Child}
