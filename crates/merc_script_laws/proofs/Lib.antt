@@ -27,3 +27,16 @@ pub mod FewOrdered
 pub mod FewFinished
 pub mod Few
 pub mod AcceptedParallel
+pub mod Members
+pub mod Cells
+pub mod Sites
+pub mod SiteMoves
+pub mod Counts
+pub mod Static
+pub mod Placed
+pub mod Kids
+pub mod Conjuncts
+pub mod Dets
+pub mod Begins
+pub mod Behind
+pub mod BehindWaits
