@@ -1,5 +1,5 @@
 -- The sites of parallel conjunctions: how many conjuncts are forked at each, their cells, and which rights of the enclosing conjunct move into them.
-use Rattle.std.specs.Prelude.{ℕ, suc, Bool, ◌==◌, ◌||◌, not, List, [], ◌∷◌, ◌++◌, map, Option, if◌then◌else◌}
+use Rattle.std.specs.Prelude.{ℕ, suc, Bool, true, false, ◌==◌, ◌||◌, not, List, [], ◌∷◌, ◌++◌, map, Option, if◌then◌else◌}
 use Rattle.std.specs.List.{filter, flat_map, list_any}
 use Rattle.merc_base.specs.declared.category.Category.{Category}
 use Rattle.merc_graded_tree.specs.declared.entries.Running.TheVariants.{Sequential, Parallel}
