@@ -1,5 +1,7 @@
 pub mod SameTraces
 pub mod Erasing
+pub mod RowLaws
+pub mod Indexes
 pub mod Counting
 pub mod Numbering
 pub mod Agreeing

@@ -30,21 +30,21 @@ pub(crate) fn put_shares(
 {
     for wait in waits {
         let users = members.users(alloc, occurrences, wait.right.variable, 0)?;
-        put_share(*wait, &users, found)?;
+        put_share(wait, &users, found)?;
     }
     Ok(())
 }
 
 // Puts a right for each of these numbers.
 fn put_share(
-    wait: Awaited,
+    wait: &Awaited,
     users: &[usize],
     found: &mut Vec<(usize, Awaited)>,
 ) -> Result<(), NoMemory>
-    ensures { OnOk result (found.new.items ≡ found.old.items ++ map (λ number. (number, wait)) users.now) }
+    ensures { OnOk result (found.new.items ≡ found.old.items ++ map (λ number. (number, wait.now)) users.now) }
 {
     for user in users {
-        found.push((*user, wait))?;
+        found.push((*user, *wait))?;
     }
     Ok(())
 }

@@ -35,9 +35,9 @@ impl<'a> Members<'a> {
     ///
     /// `NoMemory` where memory was refused.
     pub(crate) fn of(alloc: Global, goals: Vec<NodeRef<'a>>, first: usize) -> Result<Members<'a>, NoMemory>
-        ensures goals { IfOk result (λ members. members.goals.items ≡ goals.items) }
+        ensures goals { IfOk result (λ members. members.goals.items ≡ goals.entry.items) }
         ensures first { IfOk result (λ members. members.first ≡ first) }
-        ensures starts { IfOk result (λ members. members.starts.items ≡ starts_of first goals.items) }
+        ensures starts { IfOk result (λ members. members.starts.items ≡ starts_of first goals.entry.items) }
     {
         let starts = starts(alloc, &goals, first)?;
         Ok(Members { goals, first, starts })
@@ -118,7 +118,7 @@ fn starts(alloc: Global, goals: &[NodeRef<'_>], first: usize) -> Result<Vec<usiz
 ///
 /// `NoMemory` where memory was refused.
 pub(crate) fn listed<'a>(alloc: Global, parts: Parts<'a>) -> Result<Vec<NodeRef<'a>>, NoMemory>
-    ensures { IfOk result (λ goals. goals.items ≡ parts) }
+    ensures { IfOk result (λ goals. goals.items ≡ parts.entry) }
 {
     let mut goals = Vec::new(alloc);
     let mut left = parts;
@@ -158,7 +158,7 @@ pub(crate) fn leave_members<'a>(
     tasks: &mut Tasks<'a>,
 ) -> Result<(), NoMemory>
     requires { members.starts.items ≡ starts_of members.first members.goals.items }
-    ensures { OnOk result (tasks.new ≡ member_tasks members.first (shares_of 0 members.goals.items waits.now signals.now passed.now) ++ tasks.old) }
+    ensures { OnOk result (tasks.new ≡ member_tasks members.entry.first (shares_of 0 members.entry.goals.items waits.now signals.now passed.now) ++ tasks.old) }
 {
     let Members { goals, starts, .. } = members;
     let mut goals = goals;

@@ -148,7 +148,7 @@ fn leave_whole<'a>(
     goals: Vec<NodeRef<'a>>,
     tasks: &mut Tasks<'a>,
 ) -> Result<(), NoMemory>
-    ensures { OnOk result (tasks.new ≡ whole_tasks placing.entry root goals.items ++ tasks.old) }
+    ensures { OnOk result (tasks.new ≡ whole_tasks placing.entry root goals.entry.items ++ tasks.old) }
 {
     let Placing { goal, first, waits, signals } = placing;
     let before = waits.as_slice().len();
@@ -191,7 +191,7 @@ fn leave_arms<'a>(
     tasks: &mut Tasks<'a>,
 ) -> Result<(), NoMemory>
     requires { Lies (labels_of occurrences.now) first (all_labels goals.items) }
-    ensures { OnOk result (tasks.new ≡ arm_tasks goals.items first waits.now signals.now ++ tasks.old) }
+    ensures { OnOk result (tasks.new ≡ arm_tasks goals.entry.items first waits.now signals.now ++ tasks.old) }
 {
     let members = Members::of(alloc, goals, first)?;
     let mut shares = Vec::new(alloc);
@@ -329,8 +329,8 @@ fn leave_found<'a>(
     sites: &mut Vec<SiteInfo>,
 ) -> Result<(), NoMemory>
     requires { members.starts.items ≡ starts_of members.first members.goals.items }
-    ensures tasks { OnOk result (tasks.new ≡ member_tasks members.first (shares_of 0 members.goals.items found.waits.items found.signals.items []) ++ tasks.old) }
-    ensures sites { OnOk result (sites.new.items ≡ sites.old.items ++ record { children = length members.goals.items; cells = found.cells.items; moves = found.moves.items } ∷ []) }
+    ensures tasks { OnOk result (tasks.new ≡ member_tasks members.entry.first (shares_of 0 members.entry.goals.items found.waits.items found.signals.items []) ++ tasks.old) }
+    ensures sites { OnOk result (sites.new.items ≡ sites.old.items ++ record { children = length members.entry.goals.items; cells = found.cells.items; moves = found.moves.items } ∷ []) }
 {
     let Found { cells, moves, waits, signals } = found;
     sites.push(SiteInfo {

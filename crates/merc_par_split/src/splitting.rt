@@ -4,7 +4,7 @@ ghost use Rattle.std.specs.Prelude.{Some};
 ghost use Rattle.merc_graded_tree.specs.Nodes.{node, Basic};
 ghost use Rattle.merc_base.specs.declared.category.Category.{Category};
 ghost use Rattle.merc_par_split.specs.Rights.{signal_at, wait_at};
-ghost use Rattle.merc_par_split.specs.Sites.{sites};
+ghost use Rattle.merc_par_split.specs.Sites.{sites as planned_sites};
 ghost use Rattle.merc_par_split.specs.Split.{split};
 ghost use Rattle.merc_par_split.specs.Tasks.{HaveEnough, LiesTask, Performs};
 
@@ -34,7 +34,7 @@ pub fn split(
     sites: &mut Vec<SiteInfo>,
 ) -> Result<(), NoMemory>
     ensures tree { OnOk result (nodes.new ≡ nodes.old ++ split (length sites.old.items) goal.now ∷ []) }
-    ensures sites { OnOk result (sites.new.items ≡ sites.old.items ++ sites goal.now) }
+    ensures sites { OnOk result (sites.new.items ≡ sites.old.items ++ planned_sites goal.now) }
 {
     let occurrences = Occurrences::of(alloc, goal)?;
     let mut tasks = Tasks::new(alloc);
@@ -54,8 +54,8 @@ fn perform<'a>(
     nodes: &mut Nodes,
     sites: &mut Vec<SiteInfo>,
 ) -> Result<(), NoMemory>
-    requires lies { LiesTask occurrences.now task.entry }
-    requires enough { HaveEnough (length nodes.old) (task.entry ∷ tasks.old) }
+    requires lies { LiesTask occurrences.now task }
+    requires enough { HaveEnough (length nodes.old) (task ∷ tasks.old) }
     ensures { OnOk result (Performs occurrences.now task.entry tasks.old (record { goals = nodes.old; sites = sites.old.items }) tasks.new (record { goals = nodes.new; sites = sites.new.items })) }
 {
     match task {

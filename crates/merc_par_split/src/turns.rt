@@ -29,7 +29,7 @@ pub(crate) fn waits_in_turn(
 {
     let mut found = Vec::new(alloc);
     for wait in waits {
-        if let Some(turn) = turn_of_wait(occurrences, members, *wait) {
+        if let Some(turn) = turn_of_wait(occurrences, members, wait) {
             found.push(turn)?;
         }
     }
@@ -40,10 +40,10 @@ pub(crate) fn waits_in_turn(
 fn turn_of_wait(
     occurrences: &Occurrences<'_>,
     members: &Members<'_>,
-    wait: Awaited,
+    wait: &Awaited,
 ) -> Option<(usize, Awaited)>
     requires { IsLaid occurrences.now members.now }
-    ensures { option_to_list result ≡ turn_wait members.now.goals.items wait }
+    ensures { option_to_list result ≡ turn_wait members.now.goals.items wait.now }
 {
     let variable = wait.right.variable;
     let user = members.next_user(occurrences, variable, 0)?;
