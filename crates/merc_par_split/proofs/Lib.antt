@@ -2,6 +2,7 @@ pub mod SameTraces
 pub mod Erasing
 pub mod RowLaws
 pub mod Indexes
+pub mod MemberLaws
 pub mod Counting
 pub mod Numbering
 pub mod Agreeing

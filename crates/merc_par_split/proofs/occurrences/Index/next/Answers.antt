@@ -1,0 +1,5 @@
+use Rattle.merc_par_split.proofs.Indexes.{row_rises}
+use Rattle.merc_par_split.proofs.occurrences.Index.next.Goals as goal
+
+pub first_from-requires : goal.first_from-requires
+first_from-requires c = row_rises c.row.result.now _ c.row.ensures ?
