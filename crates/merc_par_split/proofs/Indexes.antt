@@ -42,13 +42,13 @@ found_at row from i within passes fails =
 abbrev if_in : {X : Type 0} → Bool → X → List X → List X
 if_in b x l = if b then x ∷ l else l
 
-row-append : {X : Type 0} (number : ℕ) (one other : List (ℕ × X)) → row_of number (one ++ other) ≡ row_of number one ++ row_of number other
+with_first : {X : Type 0} (b : Bool) (first : X) (whole one other : List X) → whole ≡ one ++ other → (if b then first ∷ whole else whole) ≡ (if b then first ∷ one else one) ++ other
+with_first true first whole one other is = ap (λ l. first ∷ l) is
+with_first false first whole one other is = is
+
+pub row-append : {X : Type 0} (number : ℕ) (one other : List (ℕ × X)) → row_of number (one ++ other) ≡ row_of number one ++ row_of number other
 row-append number [] other = refl
-row-append number (first ∷ rest) other = by (first.0 == number) (row-append number rest other)
-  where
-    by : {X : Type 0} {first : ℕ × X} (b : Bool) {l m n : List X} → l ≡ m ++ n → (if b then first.1 ∷ l else l) ≡ (if b then first.1 ∷ m else m) ++ n
-    by true {l} {m} {n} is = ap (λ x. first.1 ∷ x) is
-    by false is = is
+row-append number (first ∷ rest) other = with_first (first.0 == number) first.1 (row_of number (rest ++ other)) (row_of number rest) (row_of number other) (row-append number rest other)
 
 -- the row of a variable among pairs of one number
 
@@ -138,3 +138,5 @@ row_rises row listed is up i j d ordered less =
     mapped_at [] k d = refl
     mapped_at (first ∷ rest) zero d = refl
     mapped_at (first ∷ rest) (suc k) d = mapped_at rest k d
+
+-- one part more

@@ -3,6 +3,7 @@ pub mod Erasing
 pub mod RowLaws
 pub mod Indexes
 pub mod MemberLaws
+pub mod StepLaws
 pub mod Counting
 pub mod Numbering
 pub mod Agreeing

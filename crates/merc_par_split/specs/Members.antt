@@ -1,6 +1,6 @@
 -- Which of the goals that a goal joins the rights go to that it has.
-use Rattle.std.specs.Prelude.{◌≡◌, ℕ, zero, suc, Bool, true, false, not, ◌&&◌, List, [], ◌∷◌, ◌++◌, map, Option, Some, None, if◌then◌else◌}
-use Rattle.std.specs.List.{flat_map}
+use Rattle.std.specs.Prelude.{◌≡◌, ℕ, zero, suc, Bool, true, false, not, ◌&&◌, nat_le, length, List, [], ◌∷◌, ◌++◌, map, Option, Some, None, if◌then◌else◌}
+use Rattle.std.specs.List.{filter, flat_map}
 use Rattle.std.specs.Option.{is_some}
 use Rattle.merc_graded_tree.specs.Nodes.{Node, outputs_of}
 use Rattle.merc_graded_tree.specs.Labels.{labels_of, all_labels}
@@ -19,6 +19,10 @@ use Rattle.merc_par_split.specs.declared.sites.Moved.{Moved}
 pub record IsLaid (whole : Node) (members : Members) : Type 0 where
   pub starts : members.starts.items ≡ starts_of members.first members.goals.items
   pub lies : Lies (labels_of whole) members.first (all_labels members.goals.items)
+
+-- how many of the places where goals start are not behind a place
+abbrev pub count_of : ℕ → List ℕ → ℕ
+count_of place starts = length (filter (λ other. nat_le other place) starts)
 
 abbrev pub uses_it : ℕ → Node → Bool
 uses_it variable goal = in_node goal variable

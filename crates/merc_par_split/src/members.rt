@@ -1,10 +1,9 @@
 //! The goals that a goal joins, and which of them use a variable.
-ghost use Rattle.std.specs.Prelude.{◌≡◌, ◌≤◌, ◌++◌, nat_le, [], map, length, take, IfOk, OnOk};
-ghost use Rattle.std.specs.List.{filter};
+ghost use Rattle.std.specs.Prelude.{◌≡◌, ◌-◌, ◌++◌, nat_le, [], map, slice_index_or, Some, None, IfOk, OnOk, if◌then◌else◌};
 ghost use Rattle.std.specs.List.Sorted.{IsNonDecreasing};
 ghost use Rattle.merc_graded_tree.specs.Nodes.{outputs_of};
 ghost use Rattle.merc_graded_tree.specs.Variables.{among, in_node};
-ghost use Rattle.merc_par_split.specs.Members.{IsLaid};
+ghost use Rattle.merc_par_split.specs.Members.{count_of, IsLaid};
 ghost use Rattle.merc_par_split.specs.Rows.{next_from, numbers_from, Tells};
 ghost use Rattle.merc_par_split.specs.Tasks.{member_tasks, shares_of, starts_of};
 
@@ -53,14 +52,15 @@ impl<'a> Members<'a> {
         requires { IsLaid occurrences.now self.now }
         ensures { result ≡ next_from (λ goal. in_node goal variable) from 0 self.now.goals.items }
     {
-        if from >= self.goals.len() {
+        let goals = self.goals.as_slice();
+        let starts = self.starts.as_slice();
+        if from >= goals.len() {
             return None;
         }
-        let place = occurrences.first_from(variable, self.starts[from])?;
-        if place >= self.starts[self.goals.len()] {
-            return None;
+        match occurrences.first_from(variable, start_of(starts, from)) {
+            Some(place) => member_of(starts, place, start_of(starts, goals.len())),
+            None => None,
         }
-        Some(count_up_to(&self.starts, place).saturating_sub(1))
     }
 
     /// The goals from this one on that use the variable. It takes time of the order of their number times the logarithm of
@@ -89,11 +89,32 @@ impl<'a> Members<'a> {
     }
 }
 
+// The start of this number.
+fn start_of(starts: &[usize], number: usize) -> usize
+    ensures { result ≡ slice_index_or starts.now number 0 }
+{
+    if number < starts.len() {
+        starts[number]
+    } else {
+        0
+    }
+}
+
+// The number of the goal that has the part at a place, None where the place is past the end.
+fn member_of(starts: &[usize], place: usize, end: usize) -> Option<usize>
+    requires { IsNonDecreasing starts.now }
+    ensures { result ≡ (if nat_le end place then None else Some (count_of place starts.now - 1)) }
+{
+    if end <= place {
+        return None;
+    }
+    Some(count_up_to(starts, place).saturating_sub(1))
+}
+
 // How many of these places, which rise, stand before another or are it.
 fn count_up_to(places: &[usize], place: usize) -> usize
     requires { IsNonDecreasing places.now }
-    ensures within { result ≤ length places.now }
-    ensures front { take result places.now ≡ filter (λ other. nat_le other place) places.now }
+    ensures { result ≡ count_of place places.now }
 {
     places.partition_point(|other| *other <= place)
 }

@@ -1,6 +1,7 @@
 //! Where the variables of a goal occur.
-ghost use Rattle.std.specs.Prelude.{◌≡◌, ◌∷◌, ◌++◌, nat_le, ℕ, [], map, IfOk, OnOk};
+ghost use Rattle.std.specs.Prelude.{◌≡◌, ◌∷◌, ◌++◌, nat_le, ℕ, [], map, slice_get, IfOk, OnOk};
 ghost use Rattle.std.specs.List.{find};
+ghost use Rattle.std.specs.Option.{option_map};
 ghost use Rattle.std.specs.List.Sorted.{IsNonDecreasing, IsNonDecreasingBy};
 ghost use Rattle.merc_graded_tree.specs.Variables.{among, variables_of};
 ghost use Rattle.merc_par_split.specs.Rows.{next_from, pairs_from, row_of, Tells};
@@ -59,7 +60,14 @@ fn first_from(row: &[(usize, usize)], from: usize) -> Option<usize>
     requires { IsNonDecreasingBy (λ item. item.1) row.now }
     ensures { result ≡ find (nat_le from) (map (λ item. item.1) row.now) }
 {
-    match row.get(row.partition_point(|item| item.1 < from)) {
+    number_at(row, row.partition_point(|item| item.1 < from))
+}
+
+// The number at an index.
+fn number_at(row: &[(usize, usize)], index: usize) -> Option<usize>
+    ensures { result ≡ option_map (λ item. item.1) (slice_get row.now index) }
+{
+    match row.get(index) {
         Some(item) => Some(item.1),
         None => None,
     }

@@ -6,7 +6,7 @@ use Rattle.merc_par_split.specs.Tasks.{starts_of}
 use Rattle.merc_par_split.proofs.members.listed.Given as goal
 
 abbrev pub invariant-loop-last : goal.invariant-loop-last
-invariant-loop-last l = l.left ++ reverse l.goals.items ≡ l.parts
+invariant-loop-last l = l.left ++ reverse l.goals.items ≡ l.fn.parts
 
 abbrev pub decreases-loop-last : goal.decreases-loop-last
 decreases-loop-last l = length l.left
