@@ -5,7 +5,7 @@ use Rattle.std.specs.List.Sorted.{IsNonDecreasing, IsNonDecreasingBy}
 use Rattle.std.specs.Option.{option_map}
 use Rattle.std.proofs.Common.{◌∙◌, ap, sym, subst, arith}
 use Rattle.std.proofs.lemmas.Bool.Decides.{nat_tests}
-use Rattle.std.proofs.lemmas.List.{length-map}
+use Rattle.std.proofs.lemmas.List.{length-map, append-nil, append_assoc}
 use Rattle.merc_graded_tree.specs.Variables.{among}
 use Rattle.merc_par_split.specs.Rows.{row_of, next_from, numbers_from, each_from, pairs_from, Tells}
 use Rattle.merc_par_split.proofs.RowLaws.{parted, not_before}
@@ -139,4 +139,110 @@ row_rises row listed is up i j d ordered less =
     mapped_at (first ∷ rest) zero d = refl
     mapped_at (first ∷ rest) (suc k) d = mapped_at rest k d
 
--- one part more
+-- one list more
+
+pub each-push : {X Y : Type 0} (f : ℕ → X → List Y) (number : ℕ) (items : List X) (last : X) → each_from f number (items ++ last ∷ []) ≡ each_from f number items ++ f (number + length items) last
+each-push f number [] last = append-nil (f number last) ∙ (let e : number ≡ number + 0 = omega arith in ap (λ n. f n last) e)
+each-push f number (first ∷ rest) last =
+    ap (λ l. f number first ++ l) (each-push f (suc number) rest last)
+    ∙ sym (append_assoc (f number first) (each_from f (suc number) rest) (f (suc number + length rest) last))
+    ∙ (let e : suc number + length rest ≡ number + suc (length rest) = omega arith in ap (λ n. (f number first ++ each_from f (suc number) rest) ++ f n last) e)
+
+image : {X Y : Type 0} (f : X → Y) → Option X → List Y
+image f None = []
+image f (Some x) = f x ∷ []
+
+pub take_got : {X Y : Type 0} (f : X → Y) (items : List X) (index : ℕ) (item : X) → Some item ≡ slice_get items index
+    → (take (index + 1) (map f items) ≡ take index (map f items) ++ f item ∷ []) × (length (take index (map f items)) ≡ index)
+take_got f [] index item is = absurd (cc)
+take_got f (first ∷ rest) zero item is = (ap (image f) (sym is), refl)
+take_got f (first ∷ rest) (suc index) item is =
+    let e : suc index + 1 ≡ suc (index + 1) = omega arith in
+    let r = take_got f rest index item is in (ap (λ n. take n (map f (first ∷ rest))) e ∙ ap (λ l. f first ∷ l) r.0, ap suc r.1)
+
+pub pairs_more : {X : Type 0} (f : X → List ℕ) (items : List X) (index : ℕ) (item : X) (old new : List (ℕ × ℕ)) → Some item ≡ slice_get items index
+    → old ≡ pairs_from 0 (take index (map f items)) → new ≡ old ++ map (λ variable. (variable, index)) (f item) → new ≡ pairs_from 0 (take (index + 1) (map f items))
+pairs_more f items index item old new is same put =
+    let t = take_got f items index item is in
+    put ∙ ap (λ l. l ++ map (λ variable. (variable, index)) (f item)) same
+    ∙ (let e : index ≡ 0 + length (take index (map f items)) = let h = t.1 in omega (arith, h) in ap (λ n. pairs_from 0 (take index (map f items)) ++ map (λ variable. (variable, n)) (f item)) e)
+    ∙ sym (each-push (λ n list. map (λ variable. (variable, n)) list) 0 (take index (map f items)) (f item))
+    ∙ ap (pairs_from 0) (sym t.0)
+
+pub pairs_none : {X : Type 0} (f : X → List ℕ) (items : List X) (index : ℕ) → index < length items → None ≡ slice_get items index → ⊥
+pairs_none f [] index less is = omega (arith, less)
+pairs_none f (first ∷ rest) zero less is = cc
+pairs_none f (first ∷ rest) (suc index) less is = pairs_none f rest index (omega (arith, less)) is
+
+pub got : {X : Type 0} (items : List X) (index : ℕ) (item : X) → item ≡ slice_index_or items index item → index < length items → Some item ≡ slice_get items index
+got [] index item is less = absurd (omega (arith, less))
+got (first ∷ rest) zero item is less = ap (λ x. Some x) is
+got (first ∷ rest) (suc index) item is less = got rest index item is (omega (arith, less))
+
+-- the numbers of such items, one after the other
+
+numbers_same : {X : Type 0} (such : X → Bool) (one other number : ℕ) (items : List X) → one ≤ number → other ≤ number → numbers_from such one number items ≡ numbers_from such other number items
+numbers_same such one other number [] a b = refl
+numbers_same such one other number (first ∷ rest) a b =
+    let e : nat_le one number ≡ nat_le other number = grind (arith, nat_tests, a, b) in
+    ap (λ t. if t && such first then number ∷ numbers_from such one (suc number) rest else numbers_from such one (suc number) rest) e
+    ∙ ap (λ l. if nat_le other number && such first then number ∷ l else l) (numbers_same such one other (suc number) rest (omega (arith, a)) (omega (arith, b)))
+
+pub record Walks {X : Type 0} (such : X → Bool) (from number : ℕ) (items : List X) (found : ℕ) : Type 0 where
+  pub after : from ≤ found
+  pub behind : number ≤ found
+  pub before : found < number + length items
+  pub rest : numbers_from such from number items ≡ found ∷ numbers_from such (suc found) number items
+
+pub walks : {X : Type 0} (such : X → Bool) (from number : ℕ) (items : List X) (found : ℕ) → Some found ≡ next_from such from number items → Walks such from number items found
+walks such from number [] found is = absurd cc
+walks such from number (first ∷ rest) found is = by (nat_le from number && such first) refl (walks such from (suc number) rest found)
+  where
+    by : (b : Bool) → (nat_le from number && such first) ≡ b → (Some found ≡ next_from such from (suc number) rest → Walks such from (suc number) rest found) → Walks such from number (first ∷ rest) found
+    by true here inner =
+        let chosen : Some found ≡ Some number = is ∙ ap (λ b. if b then Some number else next_from such from (suc number) rest) here in
+        let same : found ≡ number = cc in
+        let less : from ≤ number = grind (arith, nat_tests, here) in
+        let past : nat_le (suc found) number ≡ false = grind (arith, nat_tests, same) in record {
+          after = omega (arith, less, same);
+          behind = omega (arith, same);
+          before = omega (arith, same);
+          rest = ap (λ b. if b then number ∷ numbers_from such from (suc number) rest else numbers_from such from (suc number) rest) here
+            ∙ ap (λ n. n ∷ numbers_from such from (suc number) rest) (sym same)
+            ∙ ap (λ l. found ∷ l) (numbers_same such from (suc found) (suc number) rest (omega (arith, less)) (omega (arith, same))
+            ∙ sym (ap (λ b. if b && such first then number ∷ numbers_from such (suc found) (suc number) rest else numbers_from such (suc found) (suc number) rest) past));
+        }
+    by false here inner =
+        let r = inner (is ∙ ap (λ b. if b then Some number else next_from such from (suc number) rest) here) in
+        let low = r.behind in
+        let high = r.before in
+        let past : nat_le (suc found) number ≡ false = grind (arith, nat_tests, low) in record {
+          after = r.after;
+          behind = omega (arith, low);
+          before = omega (arith, high);
+          rest = ap (λ b. if b then number ∷ numbers_from such from (suc number) rest else numbers_from such from (suc number) rest) here ∙ r.rest
+            ∙ ap (λ l. found ∷ l) (sym (ap (λ b. if b && such first then number ∷ numbers_from such (suc found) (suc number) rest else numbers_from such (suc found) (suc number) rest) past));
+        }
+
+pub walked : {X : Type 0} (such : X → Bool) (from number : ℕ) (items : List X) → None ≡ next_from such from number items → numbers_from such from number items ≡ []
+walked such from number [] is = refl
+walked such from number (first ∷ rest) is = by (nat_le from number && such first) refl (walked such from (suc number) rest)
+  where
+    by : (b : Bool) → (nat_le from number && such first) ≡ b → (None ≡ next_from such from (suc number) rest → numbers_from such from (suc number) rest ≡ [])
+        → (if nat_le from number && such first then number ∷ numbers_from such from (suc number) rest else numbers_from such from (suc number) rest) ≡ []
+    by true here inner = absurd (let e = is ∙ ap (λ b. if b then Some number else next_from such from (suc number) rest) here in cc)
+    by false here inner = ap (λ b. if b then number ∷ numbers_from such from (suc number) rest else numbers_from such from (suc number) rest) here
+        ∙ inner (is ∙ ap (λ b. if b then Some number else next_from such from (suc number) rest) here)
+
+-- a loop goes on
+pub walk_on : {X Y : Type 0} (f : ℕ → Y) (such : X → Bool) (from next found : ℕ) (items : List X) (old new whole : List Y) → Some found ≡ next_from such from 0 items → next ≡ found + 1 → new ≡ old ++ f found ∷ []
+    → old ++ map f (numbers_from such from 0 items) ≡ whole → new ++ map f (numbers_from such next 0 items) ≡ whole
+walk_on f such from next found items old new whole is n put same =
+    let w = walks such from 0 items found is in
+    let e : next ≡ suc found = omega (arith, n) in
+    ap (λ l. l ++ map f (numbers_from such next 0 items)) put ∙ append_assoc old (f found ∷ []) (map f (numbers_from such next 0 items))
+    ∙ ap (λ k. old ++ f found ∷ map f (numbers_from such k 0 items)) e ∙ ap (λ l. old ++ map f l) (sym w.rest) ∙ same
+
+pub walk_over : {X Y : Type 0} (f : ℕ → Y) (such : X → Bool) (from : ℕ) (items : List X) (old whole : List Y) → None ≡ next_from such from 0 items
+    → old ++ map f (numbers_from such from 0 items) ≡ whole → old ≡ whole
+walk_over f such from items old whole is same = sym (append-nil old) ∙ ap (λ l. old ++ map f l) (sym (walked such from 0 items is)) ∙ same

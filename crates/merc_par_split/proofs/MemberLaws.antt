@@ -211,6 +211,7 @@ count_front place start (suc number) (first ∷ rest) less within =
     count_true place start (starts_of (start + length (labels_of first)) rest) (omega (arith, within))
     ∙ ap suc (count_front place (start + length (labels_of first)) number rest (omega (arith, less)) (omega (arith, within, e)))
     ∙ ap (λ n. suc (number + count_of place (starts_of n (drop number rest)))) f
+    ∙ (let x = count_of place (starts_of (start + length (labels_of first ++ all_labels (take number rest))) (drop number rest)) in let g : suc (number + x) ≡ suc number + x = omega arith in g)
 
 module _ (variable : ℕ) where
   abbrev uses_v : Node → Bool
@@ -359,14 +360,14 @@ end_is start end goals is = is ∙ start_at start (length goals) 0 goals (omega 
 abbrev member_if : Bool → ℕ → Option ℕ
 member_if b number = if b then None else Some number
 
-pub member_is : (whole : Node) (first : ℕ) (goals : List Node) (lies : Lies (labels_of whole) first (all_labels goals)) (variable from : ℕ) (within : from ≤ length goals) (place end start : ℕ) (starts : List ℕ)
-    → starts ≡ starts_of first goals → end ≡ slice_index_or starts (length goals) 0 → start ≡ slice_index_or starts from 0
-    → Some place ≡ next_from (λ list. among list variable) start 0 (uses_of whole)
+pub member_is : (whole : Node) (first : ℕ) (goals : List Node) (lies : Lies (labels_of whole) first (all_labels goals)) (variable from : ℕ) (within : from ≤ length goals) (place end begin : ℕ) (starts : List ℕ)
+    → starts ≡ starts_of first goals → end ≡ slice_index_or starts (length goals) 0 → begin ≡ slice_index_or starts from 0
+    → Some place ≡ next_from (λ list. among list variable) begin 0 (uses_of whole)
     → (if nat_le end place then None else Some (count_of place starts - 1)) ≡ next_from (λ goal. in_node goal variable) from 0 goals
-member_is whole first goals lies variable from within place end start starts are e s is =
+member_is whole first goals lies variable from within place end begin starts are e s is =
     decide (nat_le end place) refl
   where
-    here : start ≡ first + length (all_labels (take from goals))
+    here : begin ≡ first + length (all_labels (take from goals))
     here = s ∙ ap (λ l. slice_index_or l from 0) are ∙ start_at first from 0 goals within
     found : Some place ≡ next_from (λ list. among list variable) (first + length (all_labels (take from goals))) 0 (uses_of whole)
     found = is ∙ ap (λ n. next_from (λ list. among list variable) n 0 (uses_of whole)) here
@@ -376,9 +377,9 @@ member_is whole first goals lies variable from within place end start starts are
     decide true past = place_past whole first goals lies variable from within place found (grind (arith, nat_tests, past, ends_at))
     decide false before = ap (λ l. Some (count_of place l - 1)) are ∙ place_in whole first goals lies variable from within place found (grind (arith, nat_tests, before, ends_at))
 
-pub no_member : (whole : Node) (first : ℕ) (goals : List Node) (lies : Lies (labels_of whole) first (all_labels goals)) (variable from : ℕ) (within : from ≤ length goals) (start : ℕ) (starts : List ℕ)
-    → starts ≡ starts_of first goals → start ≡ slice_index_or starts from 0 → None ≡ next_from (λ list. among list variable) start 0 (uses_of whole)
+pub no_member : (whole : Node) (first : ℕ) (goals : List Node) (lies : Lies (labels_of whole) first (all_labels goals)) (variable from : ℕ) (within : from ≤ length goals) (begin : ℕ) (starts : List ℕ)
+    → starts ≡ starts_of first goals → begin ≡ slice_index_or starts from 0 → None ≡ next_from (λ list. among list variable) begin 0 (uses_of whole)
     → None ≡ next_from (λ goal. in_node goal variable) from 0 goals
-no_member whole first goals lies variable from within start starts are s is =
+no_member whole first goals lies variable from within begin starts are s is =
     no_place whole first goals lies variable from within
     (is ∙ ap (λ n. next_from (λ list. among list variable) n 0 (uses_of whole)) (s ∙ ap (λ l. slice_index_or l from 0) are ∙ start_at first from 0 goals within))

@@ -80,10 +80,10 @@ impl<'a> Members<'a> {
         ensures { IfOk result (λ users. users.items ≡ numbers_from (λ goal. in_node goal variable) from 0 self.now.goals.items) }
     {
         let mut users = Vec::new(alloc);
-        let mut from = from;
-        while let Some(user) = self.next_user(occurrences, variable, from) {
+        let mut next = from;
+        while let Some(user) = self.next_user(occurrences, variable, next) {
             users.push(user)?;
-            from = sum(user, 1)?;
+            next = sum(user, 1)?;
         }
         Ok(users)
     }

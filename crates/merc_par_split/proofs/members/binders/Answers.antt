@@ -1,0 +1,17 @@
+use Rattle.std.proofs.Common.{◌∙◌, ap, sym, subst, arith, length, map, take, ◌≡◌}
+use Rattle.std.proofs.lemmas.List.{take_all}
+use Rattle.std.proofs.lemmas.Result.{IfOk-weaker}
+use Rattle.merc_graded_tree.specs.Nodes.{outputs_of}
+use Rattle.merc_par_split.specs.Rows.{row_of, pairs_from}
+use Rattle.merc_par_split.proofs.Indexes.{pairs_more, pairs_rise, got}
+use Rattle.merc_par_split.proofs.members.binders.Goals as goal
+
+pub loop-number-preserved : goal.loop-number-preserved
+loop-number-preserved c = ?
+
+pub of-requires : goal.of-requires
+of-requires c = pairs_rise c.loop-number.pairs.items (map outputs_of (take c.loop-number.number c.args.goals.now)) c.loop-number.invariant
+
+pub returns : goal.returns
+returns c =
+    IfOk-weaker c.of.result _ _ (λ index told variable. told variable ∙ ap (row_of variable) (c.loop-number.invariant ∙ ap (λ l. pairs_from 0 (map outputs_of l)) (take_all c.loop-number.number c.args.goals.now (omega (arith, c.loop-number-test.false))))) c.of.ensures
