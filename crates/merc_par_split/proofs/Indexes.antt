@@ -1,11 +1,12 @@
 -- Numbers by variable: the next one, and which lists they tell of.
 use Rattle.std.specs.Prelude.{◌≡◌, ◌≤◌, ◌<◌, ◌+◌, ◌-◌, ◌==◌, ◌&&◌, ◌||◌, not, nat_le, nat_lt, ℕ, zero, suc, Bool, true, false, List, [], ◌∷◌, ◌++◌, length, take, drop, map, slice_get, slice_index_or, Option, Some, None, refl, if◌then◌else◌}
-use Rattle.std.specs.List.{filter, find, list_any}
+use Rattle.std.specs.List.{filter, find, flat_map, list_any}
 use Rattle.std.specs.List.Sorted.{IsNonDecreasing, IsNonDecreasingBy}
 use Rattle.std.specs.Option.{option_map}
 use Rattle.std.proofs.Common.{◌∙◌, ap, sym, subst, arith}
 use Rattle.std.proofs.lemmas.Bool.Decides.{nat_tests}
-use Rattle.std.proofs.lemmas.List.{length-map, append-nil, append_assoc}
+use Rattle.std.proofs.lemmas.List.{length-map, append-nil, append_assoc, flat_map_more, take_more, drop_more, drop_all}
+use Rattle.merc_graded_tree.specs.Nodes.{Node, outputs_of}
 use Rattle.merc_graded_tree.specs.Variables.{among}
 use Rattle.merc_par_split.specs.Rows.{row_of, next_from, numbers_from, each_from, pairs_from, Tells}
 use Rattle.merc_par_split.proofs.RowLaws.{parted, not_before}
@@ -139,6 +140,14 @@ row_rises row listed is up i j d ordered less =
     mapped_at (first ∷ rest) zero d = refl
     mapped_at (first ∷ rest) (suc k) d = mapped_at rest k d
 
+-- one item more
+
+pub flat_more : {X Y : Type 0} (f : X → List Y) (items : List X) (index : ℕ) (item : X) (before old new : List Y) → item ≡ slice_index_or items index item → index < length items
+    → old ≡ before ++ flat_map f (take index items) → new ≡ old ++ f item → new ≡ before ++ flat_map f (take (index + 1) items)
+flat_more f items index item before old new is less same put =
+    put ∙ ap (λ l. l ++ f item) same ∙ flat_map_more f before (take index items) item
+    ∙ ap (λ l. before ++ flat_map f l) (sym (take_more items index item less ∙ ap (λ x. take index items ++ x ∷ []) (sym is)))
+
 -- one list more
 
 pub each-push : {X Y : Type 0} (f : ℕ → X → List Y) (number : ℕ) (items : List X) (last : X) → each_from f number (items ++ last ∷ []) ≡ each_from f number items ++ f (number + length items) last
@@ -148,7 +157,7 @@ each-push f number (first ∷ rest) last =
     ∙ sym (append_assoc (f number first) (each_from f (suc number) rest) (f (suc number + length rest) last))
     ∙ (let e : suc number + length rest ≡ number + suc (length rest) = omega arith in ap (λ n. (f number first ++ each_from f (suc number) rest) ++ f n last) e)
 
-image : {X Y : Type 0} (f : X → Y) → Option X → List Y
+abbrev image : {X Y : Type 0} (f : X → Y) → Option X → List Y
 image f None = []
 image f (Some x) = f x ∷ []
 
@@ -246,3 +255,73 @@ walk_on f such from next found items old new whole is n put same =
 pub walk_over : {X Y : Type 0} (f : ℕ → Y) (such : X → Bool) (from : ℕ) (items : List X) (old whole : List Y) → None ≡ next_from such from 0 items
     → old ++ map f (numbers_from such from 0 items) ≡ whole → old ≡ whole
 walk_over f such from items old whole is same = sym (append-nil old) ∙ ap (λ l. old ++ map f l) (sym (walked such from 0 items is)) ∙ same
+
+-- which goals of a list bind a variable
+pub next_mapped : (variable from number : ℕ) (goals : List Node) → next_from (λ list. among list variable) from number (map outputs_of goals) ≡ next_from (λ goal. among (outputs_of goal) variable) from number goals
+next_mapped variable from number [] = refl
+next_mapped variable from number (first ∷ rest) = ap (λ o. if nat_le from number && among (outputs_of first) variable then Some number else o) (next_mapped variable from (suc number) rest)
+
+pub next_binder : (variable from : ℕ) (pairs : List (ℕ × ℕ)) (goals : List Node) (result : Option ℕ) → Tells pairs (map outputs_of goals) → result ≡ find (nat_le from) (row_of variable pairs)
+    → result ≡ next_from (λ goal. among (outputs_of goal) variable) from 0 goals
+next_binder variable from pairs goals result tells is = next_is variable from pairs (map outputs_of goals) result tells is ∙ next_mapped variable from 0 goals
+
+-- fewer numbers are left behind one that is found
+
+fewer_from : (one other : ℕ) (row : List ℕ) → one ≤ other → length (filter (nat_le other) row) ≤ length (filter (nat_le one) row)
+fewer_from one other [] less = omega arith
+fewer_from one other (first ∷ rest) less = by (nat_le other first) (nat_le one first) (λ h. grind (arith, nat_tests, less, h)) (fewer_from one other rest less)
+  where
+    by : (a b : Bool) → (a ≡ true → b ≡ true) → length (filter (nat_le other) rest) ≤ length (filter (nat_le one) rest)
+        → length (if a then first ∷ filter (nat_le other) rest else filter (nat_le other) rest) ≤ length (if b then first ∷ filter (nat_le one) rest else filter (nat_le one) rest)
+    by true true h is = omega (arith, is)
+    by true false h is = absurd (let e = h refl in cc)
+    by false true h is = omega (arith, is)
+    by false false h is = is
+
+pub record Falls (from found : ℕ) (row : List ℕ) : Type 0 where
+  pub low : from ≤ found
+  pub less : length (filter (nat_le (found + 1)) row) < length (filter (nat_le from) row)
+
+pub falls : (from found : ℕ) (row : List ℕ) → Some found ≡ find (nat_le from) row → Falls from found row
+falls from found [] is = absurd cc
+falls from found (first ∷ rest) is = by (nat_le from first) refl (falls from found rest)
+  where
+    by : (b : Bool) → nat_le from first ≡ b → (Some found ≡ find (nat_le from) rest → Falls from found rest) → Falls from found (first ∷ rest)
+    by true here inner =
+        let chosen : Some found ≡ Some first = is ∙ ap (λ b. if b then Some first else find (nat_le from) rest) here in
+        let same : found ≡ first = cc in
+        let less : from ≤ first = grind (arith, nat_tests, here) in
+        let past : nat_le (found + 1) first ≡ false = grind (arith, nat_tests, same) in
+        let now : length (filter (nat_le from) (first ∷ rest)) ≡ suc (length (filter (nat_le from) rest)) = ap (λ b. length (if b then first ∷ filter (nat_le from) rest else filter (nat_le from) rest)) here in
+        let next : length (filter (nat_le (found + 1)) (first ∷ rest)) ≡ length (filter (nat_le (found + 1)) rest) =
+        ap (λ b. length (if b then first ∷ filter (nat_le (found + 1)) rest else filter (nat_le (found + 1)) rest)) past in
+        record { low = omega (arith, less, same); less = omega (arith, now, next, fewer_from from (found + 1) rest (omega (arith, less, same))) }
+    by false here inner =
+        let r = inner (is ∙ ap (λ b. if b then Some first else find (nat_le from) rest) here) in
+        let low = r.low in
+        let less = r.less in
+        let past : nat_le (found + 1) first ≡ false = grind (arith, nat_tests, here, low) in
+        let now : length (filter (nat_le from) (first ∷ rest)) ≡ length (filter (nat_le from) rest) = ap (λ b. length (if b then first ∷ filter (nat_le from) rest else filter (nat_le from) rest)) here in
+        let next : length (filter (nat_le (found + 1)) (first ∷ rest)) ≡ length (filter (nat_le (found + 1)) rest) =
+        ap (λ b. length (if b then first ∷ filter (nat_le (found + 1)) rest else filter (nat_le (found + 1)) rest)) past in
+        record { low = low; less = omega (arith, now, next, less) }
+
+-- .. of items of numbers one by one
+pub step_on : {X Y : Type 0} (f : ℕ → Y) (such : X → Bool) (number : ℕ) (items : List X) (item : X) (b : Bool) (old new whole : List Y) → item ≡ slice_index_or items number item → number < length items
+    → b ≡ such item → new ≡ old ++ (if b then f number ∷ [] else []) → old ++ map f (numbers_from such number number (drop number items)) ≡ whole
+    → new ++ map f (numbers_from such (number + 1) (number + 1) (drop (number + 1) items)) ≡ whole
+step_on f such number items item b old new whole is less chosen put same =
+    let rest = drop (number + 1) items in
+    let dropped : drop number items ≡ item ∷ rest = drop_more items number item less ∙ ap (λ x. x ∷ rest) (sym is) in
+    let at : nat_le number number ≡ true = grind (arith, nat_tests) in
+    let e : number + 1 ≡ suc number = omega arith in
+    ap (λ l. l ++ map f (numbers_from such (number + 1) (number + 1) rest)) (put ∙ ap (λ t. old ++ (if t then f number ∷ [] else [])) chosen)
+    ∙ ap (λ n. (old ++ (if such item then f number ∷ [] else [])) ++ map f (numbers_from such n n rest)) e
+    ∙ ap (λ l. (old ++ (if such item then f number ∷ [] else [])) ++ map f l) (numbers_same such (suc number) number (suc number) rest (omega arith) (omega arith))
+    ∙ joined (such item) (numbers_from such number (suc number) rest)
+    ∙ ap (λ t. old ++ map f (if t && such item then number ∷ numbers_from such number (suc number) rest else numbers_from such number (suc number) rest)) (sym at)
+    ∙ ap (λ l. old ++ map f (numbers_from such number number l)) (sym dropped) ∙ same
+  where
+    joined : (t : Bool) (l : List ℕ) → (old ++ (if t then f number ∷ [] else [])) ++ map f l ≡ old ++ map f (if t then number ∷ l else l)
+    joined true l = append_assoc old (f number ∷ []) (map f l)
+    joined false l = ap (λ x. x ++ map f l) (append-nil old)

@@ -1,16 +1,17 @@
 //! Rights that go to the first of goals which come one after the other.
-ghost use Rattle.std.specs.Prelude.{◌≡◌, ◌==◌, ℕ, suc, map, IfOk};
+ghost use Rattle.std.specs.Prelude.{◌≡◌, ℕ, suc, List, map, IfOk};
 ghost use Rattle.std.specs.List.{flat_map};
-ghost use Rattle.std.specs.Option.{option_to_list};
-ghost use Rattle.merc_graded_tree.specs.Nodes.{outputs_of};
-ghost use Rattle.merc_par_split.specs.Members.{turn_signal, turn_wait, IsLaid};
-ghost use Rattle.merc_par_split.specs.Rows.{row_of, Tells};
+ghost use Rattle.std.specs.Option.{is_some, option_to_list};
+ghost use Rattle.merc_graded_tree.specs.Nodes.{Node, outputs_of};
+ghost use Rattle.merc_par_split.specs.Members.{turn_signal, turn_wait, uses_it, IsLaid};
+ghost use Rattle.merc_par_split.specs.Rows.{next_from, row_of, Tells};
 
 use crate::members::{Members, binders};
-use crate::occurrences::Occurrences;
+use crate::occurrences::{Index, Occurrences};
 use crate::rights::{Awaited, Right};
 use crate::rows::Rows;
 use merc_base::NoMemory;
+use merc_goal_tree::Var;
 use std::alloc::Global;
 
 /// Each right to wait by the first goal that uses its variable.
@@ -46,10 +47,13 @@ fn turn_of_wait(
     ensures { option_to_list result ≡ turn_wait members.now.goals.items wait.now }
 {
     let variable = wait.right.variable;
-    let user = members.next_user(occurrences, variable, 0)?;
-    let behind = user.saturating_add(1);
-    let later = wait.later || members.next_user(occurrences, variable, behind).is_some();
-    Some((user, Awaited { right: wait.right, later }))
+    match members.next_user(occurrences, variable, 0) {
+        Some(user) => {
+            let later = wait.later || is_used_behind(occurrences, members, variable, user);
+            Some((user, Awaited { right: wait.right, later }))
+        }
+        None => None,
+    }
 }
 
 /// Each right to signal by the first goal that binds its variable.
@@ -67,9 +71,35 @@ pub(crate) fn signals_in_turn(
     let binders = binders(alloc, &members.goals)?;
     let mut found = Vec::new(alloc);
     for right in signals {
-        if let Some(binder) = binders.next(right.variable, 0) {
-            found.push((binder, *right))?;
+        if let Some(turn) = turn_of_signal(&binders, right) {
+            found.push(turn)?;
         }
     }
     Rows::of(found)
+}
+
+// The first goal that binds the variable, with the right.
+fn turn_of_signal(binders: &Index, right: &Right) -> Option<(usize, Right)>
+    ensures { (goals : List Node) → Tells binders.now (map outputs_of goals) → option_to_list result ≡ turn_signal goals right.now }
+{
+    match binders.next(right.variable, 0) {
+        Some(binder) => Some((binder, *right)),
+        None => None,
+    }
+}
+
+/// Whether a goal behind the one of a number uses the variable.
+pub(crate) fn is_used_behind(
+    occurrences: &Occurrences<'_>,
+    members: &Members<'_>,
+    variable: Var,
+    number: usize,
+) -> bool
+    requires laid { IsLaid occurrences.now members.now }
+    ensures { result ≡ is_some (next_from (uses_it variable) (suc number) 0 members.now.goals.items) }
+{
+    if number >= members.goals.as_slice().len() {
+        return false;
+    }
+    members.next_user(occurrences, variable, number + 1).is_some()
 }

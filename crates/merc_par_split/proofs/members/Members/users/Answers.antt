@@ -9,12 +9,12 @@ loop-user-smaller c =
     let w = walks (λ goal. in_node goal c.args.variable) c.loop-user.next 0 c.args.self.now.goals.items c.in-Some.user c.in-Some.ensures in
     let low = w.after in
     let high = w.before in
-    omega (arith, low, high, c.in_ok-sum.ensures)
+    omega (arith, low, high, c.in_ok-next.ensures)
 
 pub loop-user-preserved : goal.loop-user-preserved
 loop-user-preserved c =
-    walk_on (λ number. number) (λ goal. in_node goal c.args.variable) c.loop-user.next c.in_ok-sum.field-0 c.in-Some.user c.args.self.now.goals.items c.loop-user.users.items c.push.new.self.items _
-    c.in-Some.ensures c.in_ok-sum.ensures c.in_ok-push.ensures.items c.loop-user.invariant
+    walk_on (λ number. number) (λ goal. in_node goal c.args.variable) c.loop-user.next c.in_ok-next.next c.in-Some.user c.args.self.now.goals.items c.loop-user.users.items c.push.new.self.items _
+    c.in-Some.ensures c.in_ok-next.ensures c.in_ok-push.ensures.items c.loop-user.invariant
 
 pub returns : goal.returns
 returns c =
