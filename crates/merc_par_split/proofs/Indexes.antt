@@ -5,7 +5,7 @@ use Rattle.std.specs.List.Sorted.{IsNonDecreasing, IsNonDecreasingBy}
 use Rattle.std.specs.Option.{option_map}
 use Rattle.std.proofs.Common.{◌∙◌, ap, sym, subst, arith}
 use Rattle.std.proofs.lemmas.Bool.Decides.{nat_tests}
-use Rattle.std.proofs.lemmas.List.{length-map, append-nil, append_assoc, flat_map_more, take_more, drop_more, drop_all}
+use Rattle.std.proofs.lemmas.List.{length-map, append-nil, append_assoc, flat_map_more, get_or_default, take_more, drop_more, drop_all}
 use Rattle.merc_graded_tree.specs.Nodes.{Node, outputs_of}
 use Rattle.merc_graded_tree.specs.Variables.{among}
 use Rattle.merc_par_split.specs.Rows.{row_of, next_from, numbers_from, each_from, pairs_from, Tells}
@@ -325,3 +325,19 @@ step_on f such number items item b old new whole is less chosen put same =
     joined : (t : Bool) (l : List ℕ) → (old ++ (if t then f number ∷ [] else [])) ++ map f l ≡ old ++ map f (if t then number ∷ l else l)
     joined true l = append_assoc old (f number ∷ []) (map f l)
     joined false l = ap (λ x. x ++ map f l) (append-nil old)
+
+pub unless_is : {Y : Type 0} (b : Bool) (old one : List Y) → (old ++ (if b then [] else one)) ≡ (old ++ (if not b then one else []))
+unless_is true old one = refl
+unless_is false old one = refl
+
+first_of : {X : Type 0} (items : List X) → 0 < length items → X
+first_of [] some = absurd (omega (arith, some))
+first_of (first ∷ rest) some = first
+
+pub step_at : {X Y : Type 0} (f : ℕ → Y) (such : X → Bool) (number : ℕ) (items : List X) (b : Bool) (old new whole : List Y) → number < length items
+    → ((d : X) → number < length items → b ≡ such (slice_index_or items number d)) → new ≡ old ++ (if b then f number ∷ [] else []) → old ++ map f (numbers_from such number number (drop number items)) ≡ whole
+    → new ++ map f (numbers_from such (number + 1) (number + 1) (drop (number + 1) items)) ≡ whole
+step_at f such number items b old new whole less chosen put same =
+    let d = first_of items (omega (arith, less)) in
+    let item = slice_index_or items number d in
+    step_on f such number items item b old new whole (get_or_default items number d item less) less (chosen d less) put same

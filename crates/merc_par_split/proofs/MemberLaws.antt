@@ -4,7 +4,7 @@ use Rattle.std.specs.List.{filter, list_any}
 use Rattle.std.specs.List.Sorted.{IsNonDecreasing}
 use Rattle.std.proofs.Common.{◌∙◌, ap, sym, subst, arith}
 use Rattle.std.proofs.lemmas.Bool.Decides.{nat_tests}
-use Rattle.std.proofs.lemmas.List.{append_assoc, map-append, length-append, length-map, length-take-le, take_all, append-nil, take-append-drop}
+use Rattle.std.proofs.lemmas.List.{append_assoc, map-append, length-append, length-map, length-take-le, take_all, drop_more, append-nil, take-append-drop}
 use Rattle.merc_graded_tree.specs.declared.entries.Label.{Label}
 use Rattle.merc_graded_tree.specs.Nodes.{Node, node, Goal, Basic, Conjunction, Disjunction, Switch, Conditional, Negation, Quantified, Nodes, no_nodes, more_nodes, Arms, no_arms, more_arms}
 use Rattle.merc_graded_tree.specs.Labels.{labels_of, inner_labels, joined_labels, arm_labels, all_labels}
@@ -383,3 +383,34 @@ pub no_member : (whole : Node) (first : ℕ) (goals : List Node) (lies : Lies (l
 no_member whole first goals lies variable from within begin starts are s is =
     no_place whole first goals lies variable from within
     (is ∙ ap (λ n. next_from (λ list. among list variable) n 0 (uses_of whole)) (s ∙ ap (λ l. slice_index_or l from 0) are ∙ start_at first from 0 goals within))
+
+-- whether the item of a number is such
+
+pub next_drop : {X : Type 0} (such : X → Bool) (number : ℕ) (items : List X) → number ≤ length items → next_from such number 0 items ≡ first_at such number (drop number items)
+next_drop such number items within =
+    let size : length (take number items) ≡ number = length-take-le number items within in
+    let zero_more : 0 + length (take number items) ≡ number = omega (arith, size) in
+    ap (λ l. next_from such number 0 l) (sym (take-append-drop number items))
+    ∙ past_front such number 0 (take number items) (drop number items) (omega (arith, size))
+    ∙ ap (λ n. next_from such number n (drop number items)) zero_more
+    ∙ at_or_behind such number number (drop number items) (omega arith)
+
+at_number : {X : Type 0} (such : X → Bool) (number : ℕ) (items : List X) (d : X) → number < length items
+    → next_from such number 0 items ≡ (if such (slice_index_or items number d) then Some number else first_at such (suc number) (drop (number + 1) items))
+at_number such number items d less = next_drop such number items (omega (arith, less)) ∙ ap (λ l. first_at such number l) (drop_more items number d less)
+
+here_by : {X : Type 0} (such : X → Bool) (number found : ℕ) (b : Bool) (rest : List X) → Some found ≡ (if b then Some number else first_at such (suc number) rest) → (found == number) ≡ b
+here_by such number found true rest is = let same : found ≡ number = cc in grind (arith, nat_tests, same)
+here_by such number found false rest is =
+    let low : AtLeast (suc number) (Some found) = subst (λ o. AtLeast (suc number) o) (sym is) (at_least such (suc number) rest) in
+    let less : suc number ≤ found = low in grind (arith, nat_tests, less)
+
+pub next_here : {X : Type 0} (such : X → Bool) (number : ℕ) (items : List X) (d : X) (found : ℕ) → number < length items → Some found ≡ next_from such number 0 items → (found == number) ≡ such (slice_index_or items number d)
+next_here such number items d found less is = here_by such number found (such (slice_index_or items number d)) (drop (number + 1) items) (is ∙ at_number such number items d less)
+
+not_by : (number : ℕ) (b : Bool) (o : Option ℕ) → None ≡ (if b then Some number else o) → false ≡ b
+not_by number true o is = absurd cc
+not_by number false o is = refl
+
+pub next_not : {X : Type 0} (such : X → Bool) (number : ℕ) (items : List X) (d : X) → number < length items → None ≡ next_from such number 0 items → false ≡ such (slice_index_or items number d)
+next_not such number items d less is = not_by number (such (slice_index_or items number d)) (first_at such (suc number) (drop (number + 1) items)) (is ∙ at_number such number items d less)

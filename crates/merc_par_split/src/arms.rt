@@ -2,7 +2,7 @@
 ghost use Rattle.std.specs.Prelude.{◌≡◌, ◌<◌, ◌++◌, ℕ, List, [], ◌∷◌, length, slice_index_or, map, IfOk, OnOk, if◌then◌else◌};
 ghost use Rattle.std.specs.List.{flat_map};
 ghost use Rattle.merc_graded_tree.specs.Variables.{in_node};
-ghost use Rattle.merc_par_split.specs.Members.{pass_shares, signal_shares, spared, wait_shares, IsLaid};
+ghost use Rattle.merc_par_split.specs.Members.{binds_it, pass_shares, signal_shares, spared, wait_shares, IsLaid};
 ghost use Rattle.merc_par_split.specs.Rows.{numbers_from, row_of, Tells};
 ghost use Rattle.merc_graded_tree.specs.Nodes.{Node, outputs_of};
 
@@ -67,13 +67,14 @@ pub(crate) fn passed(
 {
     let mut found = Vec::new(alloc);
     for wait in waits {
-        put_if_later(occurrences, members, wait, &mut found)?;
+        put_if_later(alloc, occurrences, members, wait, &mut found)?;
     }
     Rows::of(found)
 }
 
 // Puts a right for each goal that does not use its variable, where it is used behind.
 fn put_if_later(
+    alloc: Global,
     occurrences: &Occurrences<'_>,
     members: &Members<'_>,
     wait: &Awaited,
@@ -85,24 +86,40 @@ fn put_if_later(
     if !wait.later {
         return Ok(());
     }
-    put_passed(occurrences, members, &wait.right, found)
+    let numbers = spared_by(alloc, occurrences, members, wait.right.variable)?;
+    put_right_share(&wait.right, &numbers, found)
 }
 
-// Puts a right for each goal that does not use its variable.
-fn put_passed(
-    occurrences: &Occurrences<'_>,
-    members: &Members<'_>,
+// Puts a right for each of these numbers.
+fn put_right_share(
     right: &Right,
+    numbers: &[usize],
     found: &mut Vec<(usize, Right)>,
 ) -> Result<(), NoMemory>
-    requires { IsLaid occurrences.now members.now }
-    ensures { OnOk result (found.new.items ≡ found.old.items ++ map (λ number. (number, right.now)) (numbers_from (spared right.now.variable) 0 0 members.now.goals.items)) }
+    ensures { OnOk result (found.new.items ≡ found.old.items ++ map (λ number. (number, right.now)) numbers.now) }
 {
-    for number in 0..members.goals.len() {
-        let used = is_user(occurrences, members, right.variable, number);
-        put_unless(used, number, *right, found)?;
+    for number in numbers {
+        found.push((*number, *right))?;
     }
     Ok(())
+}
+
+// The goals that do not use a variable.
+fn spared_by(
+    alloc: Global,
+    occurrences: &Occurrences<'_>,
+    members: &Members<'_>,
+    variable: Var,
+) -> Result<Vec<usize>, NoMemory>
+    requires { IsLaid occurrences.now members.now }
+    ensures { IfOk result (λ numbers. numbers.items ≡ numbers_from (spared variable) 0 0 members.now.goals.items) }
+{
+    let mut numbers = Vec::new(alloc);
+    for number in 0..members.goals.as_slice().len() {
+        let used = is_user(occurrences, members, variable, number);
+        put_unless(used, number, &mut numbers)?;
+    }
+    Ok(numbers)
 }
 
 // Whether the goal of a number uses the variable.
@@ -121,19 +138,14 @@ fn is_user(
     }
 }
 
-// Puts a right with a number unless it is not to be put.
-fn put_unless(
-    spared: bool,
-    number: usize,
-    right: Right,
-    found: &mut Vec<(usize, Right)>,
-) -> Result<(), NoMemory>
-    ensures { OnOk result (found.new.items ≡ found.old.items ++ (if spared then [] else (number, right) ∷ [])) }
+// Puts a number unless it is not to be put.
+fn put_unless(spared: bool, number: usize, numbers: &mut Vec<usize>) -> Result<(), NoMemory>
+    ensures { OnOk result (numbers.new.items ≡ numbers.old.items ++ (if spared then [] else number ∷ [])) }
 {
     if spared {
         return Ok(());
     }
-    found.push((number, right))?;
+    numbers.push(number)?;
     Ok(())
 }
 
@@ -152,23 +164,21 @@ pub(crate) fn bound_shares(
     let binders = binders(alloc, &members.goals)?;
     let mut found = Vec::new(alloc);
     for right in signals {
-        put_bound(&binders, right, &mut found)?;
+        let numbers = bound_by(alloc, &binders, right.variable)?;
+        put_right_share(right, &numbers, &mut found)?;
     }
     Rows::of(found)
 }
 
-// Puts a right for each goal that binds its variable.
-fn put_bound(
-    binders: &Index,
-    right: &Right,
-    found: &mut Vec<(usize, Right)>,
-) -> Result<(), NoMemory>
-    ensures { OnOk result ((goals : List Node) → Tells binders.now (map outputs_of goals) → found.new.items ≡ found.old.items ++ signal_shares goals right.now) }
+// The goals that bind a variable.
+fn bound_by(alloc: Global, binders: &Index, variable: Var) -> Result<Vec<usize>, NoMemory>
+    ensures { IfOk result (λ numbers. (goals : List Node) → Tells binders.now (map outputs_of goals) → numbers.items ≡ numbers_from (binds_it variable) 0 0 goals) }
 {
-    let mut from = 0;
-    while let Some(binder) = binders.next(right.variable, from) {
-        found.push((binder, *right))?;
-        from = sum(binder, 1)?;
+    let mut numbers = Vec::new(alloc);
+    let mut next = 0;
+    while let Some(binder) = binders.next(variable, next) {
+        numbers.push(binder)?;
+        next = sum(binder, 1)?;
     }
-    Ok(())
+    Ok(numbers)
 }
