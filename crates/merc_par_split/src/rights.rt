@@ -1,7 +1,7 @@
 //! Rights of parallel conjuncts to wait for values and to signal them.
 ghost use Rattle.std.specs.Prelude.{◌≡◌, ◌∷◌, [], OnOk};
 ghost use Rattle.merc_par_split.specs.Rights.{is_sooner, with_right};
-ghost use Rattle.merc_par_split.specs.Ranks.{Rise};
+ghost use Rattle.merc_par_split.specs.Ranks.{FitsAt, Rise};
 
 use merc_base::NoMemory;
 use merc_goal_tree::Var;
@@ -49,10 +49,21 @@ pub(crate) fn put_right(right: Right, rights: &mut Vec<Right>) -> Result<(), NoM
     ensures put { OnOk result (rights.new.items ≡ with_right right rights.old.items) }
     ensures rise { OnOk result (Rise rights.new.items) }
 {
-    let mut at = rights.len();
-    while at > 0 && is_sooner(right.conjunct, rights[at - 1].conjunct) {
-        at -= 1;
-    }
+    let at = place_of(right.conjunct, rights);
     rights.insert(at, right)?;
     Ok(())
+}
+
+// Where a right to a conjunct goes among others.
+fn place_of(conjunct: usize, rights: &[Right]) -> usize
+    ensures { FitsAt conjunct rights.now result }
+{
+    let mut left = rights;
+    while let [front @ .., last] = left {
+        if !is_sooner(conjunct, last.conjunct) {
+            return left.len();
+        }
+        left = front;
+    }
+    0
 }
