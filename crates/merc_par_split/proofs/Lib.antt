@@ -4,6 +4,7 @@ pub mod RowLaws
 pub mod Indexes
 pub mod MemberLaws
 pub mod StepLaws
+pub mod RankLaws
 pub mod Counting
 pub mod Numbering
 pub mod Agreeing

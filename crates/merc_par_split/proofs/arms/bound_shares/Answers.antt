@@ -15,7 +15,7 @@ loop-right-preserved c =
     let tells : Tells c.in_ok-binders.binders (map outputs_of goals) = subst (λ l. Tells c.in_ok-binders.binders (map outputs_of l)) c.deref.ensures.value c.in_ok-binders.ensures in
     flat_more (signal_shares goals) c.args.signals.now c.loop-right.right-index c.right-item.result [] c.loop-right.found.items c.put_right_share.new.found.items
     c.right-item.is c.loop-right-test.true c.loop-right.invariant
-    (c.in_ok-put_right_share.ensures ∙ ap (λ l. c.loop-right.found.items ++ map (λ number. (number, c.right-item.result)) l) (c.deref-2.ensures.value ∙ c.in_ok-numbers.ensures goals tells)
+    (c.in_ok-put_right_share.ensures ∙ ap (λ l. c.loop-right.found.items ++ map (λ number. (number, c.right-item.result)) l) (c.deref-in-loop-right.ensures.value ∙ c.in_ok-numbers.ensures goals tells)
     ∙ ap (λ (r : Right). c.loop-right.found.items ++ map (λ number. (number, c.right-item.result)) (numbers_from (binds_it r.variable) 0 0 goals)) c.right.view_is)
 
 pub returns : goal.returns
