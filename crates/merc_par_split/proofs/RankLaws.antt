@@ -1,9 +1,9 @@
 -- Rights in the order of the conjuncts.
-use Rattle.std.specs.Prelude.{◌≡◌, ◌≤◌, ◌<◌, ◌+◌, nat_lt, ℕ, zero, suc, Bool, true, false, List, [], ◌∷◌, ◌++◌, length, map, take, drop, refl, if◌then◌else◌}
+use Rattle.std.specs.Prelude.{◌≡◌, ◌≤◌, ◌<◌, ◌+◌, nat_lt, ℕ, zero, suc, Bool, true, false, List, [], ◌∷◌, ◌++◌, length, map, take, drop, slice_index_or, refl, if◌then◌else◌}
 use Rattle.std.specs.List.{AllByRecursion, insert}
 use Rattle.std.proofs.Common.{◌∙◌, ap, sym, subst, arith}
 use Rattle.std.proofs.lemmas.Bool.Decides.{nat_tests}
-use Rattle.std.proofs.lemmas.List.{append_assoc, take_at, drop_at}
+use Rattle.std.proofs.lemmas.List.{append_assoc, map-append, take_at, take_more, drop_at}
 use Rattle.merc_par_split.specs.Rights.{Right, right_to, is_sooner, with_right, with_rights}
 use Rattle.merc_par_split.specs.Ranks.{Rise, FitsAt}
 
@@ -83,3 +83,10 @@ put_is right rights new place fits rise put =
 pub with-push : (group : List Right) (right : Right) (rights : List Right) → with_rights (group ++ right ∷ []) rights ≡ with_right right (with_rights group rights)
 with-push [] right rights = refl
 with-push (first ∷ rest) right rights = with-push rest right (with_right first rights)
+
+pub with_more : (group : List (ℕ × Right)) (index : ℕ) (item : ℕ × Right) (old new start : List Right) → item ≡ slice_index_or group index item → index < length group
+    → old ≡ with_rights (map (λ other. other.1) (take index group)) start → new ≡ with_right item.1 old → new ≡ with_rights (map (λ other. other.1) (take (index + 1) group)) start
+with_more group index item old new start is less same put =
+    put ∙ ap (with_right item.1) same ∙ sym (with-push (map (λ other. other.1) (take index group)) item.1 start)
+    ∙ ap (λ l. with_rights l start) (sym (map-append (λ (other : ℕ × Right). other.1) (take index group) (item ∷ [])))
+    ∙ ap (λ l. with_rights (map (λ other. other.1) l) start) (sym (take_more group index item less ∙ ap (λ x. take index group ++ x ∷ []) (sym is)))

@@ -188,7 +188,7 @@ pub(crate) fn leave_members<'a>(
         leave_passing(alloc, &goal, passed.listed(alloc, number)?, tasks)?;
         tasks.push(Task::Place(Placing {
             goal,
-            first: starts[number],
+            first: start_of(&starts, number),
             waits: waits.listed(alloc, number)?,
             signals: signals.listed(alloc, number)?,
         }))?;

@@ -11,7 +11,7 @@ returns-clause-put c =
     let at = c.place_of-at.result in
     put_is c.args.right rights c.insert.new.self.items at
     (subst (λ l. FitsAt c.args.right.conjunct l at) c.deref.ensures.value (subst (λ (r : Right). FitsAt r.conjunct c.deref.result.now at) c.right.view_is c.place_of-at.ensures)) c.requires
-    (c.in_ok-insert.ensures.items ∙ ap (λ (r : Right). insert rights at r) c.right.view_is)
+    c.in_ok-insert.ensures.items
 
 pub returns-clause-rise : goal.returns-clause-rise
 returns-clause-rise c =
@@ -19,4 +19,4 @@ returns-clause-rise c =
     let at = c.place_of-at.result in
     subst Rise (sym (put_is c.args.right rights c.insert.new.self.items at
     (subst (λ l. FitsAt c.args.right.conjunct l at) c.deref.ensures.value (subst (λ (r : Right). FitsAt r.conjunct c.deref.result.now at) c.right.view_is c.place_of-at.ensures)) c.requires
-    (c.in_ok-insert.ensures.items ∙ ap (λ (r : Right). insert rights at r) c.right.view_is))) (rise_with c.args.right rights c.requires)
+    c.in_ok-insert.ensures.items)) (rise_with c.args.right rights c.requires)
