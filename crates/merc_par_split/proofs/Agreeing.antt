@@ -46,7 +46,7 @@ staying_same : (later other : ℕ → Bool) (goals : Nodes) (rights : List Right
 staying_same later other goals [] h = refl
 staying_same later other goals (first ∷ rest) (h, k) =
     ap (λ b. if not (not b && (length (users 1 goals first.variable) == 1)) then first ∷ those (λ variable. not (moves_in later goals variable)) rest
-        else those (λ variable. not (moves_in later goals variable)) rest) h
+    else those (λ variable. not (moves_in later goals variable)) rest) h
     ∙ ap (λ l. if not (moves_in other goals first.variable) then first ∷ l else l) (staying_same later other goals rest k)
 
 mutual
@@ -78,9 +78,9 @@ mutual
       let one = arm_agrees then_part (site + forks condition) later other inner signals k in
       let two = arm_agrees else_part (site + forks condition + forks then_part) later other inner signals k in
       ap (λ n. around (used_in condition waits) [] (node (Conditional first n
-          (ahead_of (placed (site + forks condition + forks then_part) later (used_in else_part inner) (bound_in else_part signals) else_part) (passed_by later else_part inner))) outputs category span)) one
+      (ahead_of (placed (site + forks condition + forks then_part) later (used_in else_part inner) (bound_in else_part signals) else_part) (passed_by later else_part inner))) outputs category span)) one
       ∙ ap (λ n. around (used_in condition waits) [] (node (Conditional first
-          (ahead_of (placed (site + forks condition) other (used_in then_part inner) (bound_in then_part signals) then_part) (passed_by other then_part inner)) n) outputs category span)) two
+      (ahead_of (placed (site + forks condition) other (used_in then_part inner) (bound_in then_part signals) then_part) (passed_by other then_part inner)) n) outputs category span)) two
   goal_agrees (Negation goal) site later other waits signals outputs category span h = refl
   goal_agrees (Quantified own goal) site later other waits signals outputs category span h =
       ap (λ n. node (Quantified own n) outputs category span) (placed_agrees goal site later other waits signals h)

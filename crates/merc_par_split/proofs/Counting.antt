@@ -131,7 +131,7 @@ mutual
       let first = placed_alike condition site nothing [] [] in
       let second = ahead_alike (passed_by later then_part inner) then_part two (placed_alike then_part (site + forks condition) later (used_in then_part inner) (bound_in then_part signals)) in
       let third = ahead_alike (passed_by later else_part inner) else_part three
-          (placed_alike else_part (site + forks condition + forks then_part) later (used_in else_part inner) (bound_in else_part signals)) in
+      (placed_alike else_part (site + forks condition + forks then_part) later (used_in else_part inner) (bound_in else_part signals)) in
       around_alike (used_in condition waits) [] (node (Conditional condition then_part else_part) outputs category span) (node (Conditional one two_ahead three_ahead) outputs category span)
       (record {
         as_many = ap (λ n. n + (forks two_ahead + forks three_ahead)) first.as_many ∙ ap (λ n. forks condition + (n + forks three_ahead)) second.as_many
@@ -169,7 +169,7 @@ mutual
       let arm = ahead_of (placed site later (used_in body waits) (bound_in body signals) body) (passed_by later body waits) in
       let others = placed_arms (site + forks body) later waits signals rest in
       let first = ahead_alike (passed_by later body waits) body (placed site later (used_in body waits) (bound_in body signals) body)
-          (placed_alike body site later (used_in body waits) (bound_in body signals)) in
+      (placed_alike body site later (used_in body waits) (bound_in body signals)) in
       let inner = arms_alike rest (site + forks body) later waits signals in
       record {
         as_many = ap (λ n. n + arm_forks others) first.as_many ∙ ap (λ n. forks body + n) inner.as_many;

@@ -143,7 +143,7 @@ mutual
       let first = placed_stands condition site nothing [] [] h in
       let second = ahead_stands (passed_by later then_part inner) then_part two (placed_stands then_part (site + forks condition) later (used_in then_part inner) (bound_in then_part signals) k) in
       let third = ahead_stands (passed_by later else_part inner) else_part three
-          (placed_stands else_part (site + forks condition + forks then_part) later (used_in else_part inner) (bound_in else_part signals) l) in
+      (placed_stands else_part (site + forks condition + forks then_part) later (used_in else_part inner) (bound_in else_part signals) l) in
       let then_erased = erased (ahead_of two (passed_by later then_part inner)) in
       let else_erased = erased (ahead_of three (passed_by later else_part inner)) in
       around_stands (used_in condition waits) [] (node (Conditional condition then_part else_part) outputs category span)

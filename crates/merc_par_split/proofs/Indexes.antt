@@ -217,9 +217,9 @@ walks such from number (first ∷ rest) found is = by (nat_le from number && suc
           behind = omega (arith, same);
           before = omega (arith, same);
           rest = ap (λ b. if b then number ∷ numbers_from such from (suc number) rest else numbers_from such from (suc number) rest) here
-            ∙ ap (λ n. n ∷ numbers_from such from (suc number) rest) (sym same)
-            ∙ ap (λ l. found ∷ l) (numbers_same such from (suc found) (suc number) rest (omega (arith, less)) (omega (arith, same))
-            ∙ sym (ap (λ b. if b && such first then number ∷ numbers_from such (suc found) (suc number) rest else numbers_from such (suc found) (suc number) rest) past));
+              ∙ ap (λ n. n ∷ numbers_from such from (suc number) rest) (sym same)
+              ∙ ap (λ l. found ∷ l) (numbers_same such from (suc found) (suc number) rest (omega (arith, less)) (omega (arith, same))
+              ∙ sym (ap (λ b. if b && such first then number ∷ numbers_from such (suc found) (suc number) rest else numbers_from such (suc found) (suc number) rest) past));
         }
     by false here inner =
         let r = inner (is ∙ ap (λ b. if b then Some number else next_from such from (suc number) rest) here) in
@@ -230,7 +230,7 @@ walks such from number (first ∷ rest) found is = by (nat_le from number && suc
           behind = omega (arith, low);
           before = omega (arith, high);
           rest = ap (λ b. if b then number ∷ numbers_from such from (suc number) rest else numbers_from such from (suc number) rest) here ∙ r.rest
-            ∙ ap (λ l. found ∷ l) (sym (ap (λ b. if b && such first then number ∷ numbers_from such (suc found) (suc number) rest else numbers_from such (suc found) (suc number) rest) past));
+              ∙ ap (λ l. found ∷ l) (sym (ap (λ b. if b && such first then number ∷ numbers_from such (suc found) (suc number) rest else numbers_from such (suc found) (suc number) rest) past));
         }
 
 pub walked : {X : Type 0} (such : X → Bool) (from number : ℕ) (items : List X) → None ≡ next_from such from number items → numbers_from such from number items ≡ []

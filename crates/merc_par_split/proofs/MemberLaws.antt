@@ -117,6 +117,7 @@ at_least such number (first ∷ rest) = by (such first) (at_least such (suc numb
     more : (o : Option ℕ) → AtLeast (suc number) o → AtLeast number o
     more None least = tt
     more (Some place) least = omega (arith, least)
+
     by : (b : Bool) → AtLeast (suc number) (first_at such (suc number) rest) → AtLeast number (if b then Some number else first_at such (suc number) rest)
     by true least = omega arith
     by false least = more (first_at such (suc number) rest) least
@@ -195,7 +196,7 @@ start_at start (suc number) d [] less = absurd (omega (arith, less))
 start_at start (suc number) d (first ∷ rest) less =
     start_at (start + length (labels_of first)) number d rest (omega (arith, less))
     ∙ (let e = length-append (labels_of first) (all_labels (take number rest)) in
-      let f : (start + length (labels_of first)) + length (all_labels (take number rest)) ≡ start + length (labels_of first ++ all_labels (take number rest)) = omega (arith, e) in f)
+    let f : (start + length (labels_of first)) + length (all_labels (take number rest)) ≡ start + length (labels_of first ++ all_labels (take number rest)) = omega (arith, e) in f)
 
 -- all starts up to a number count where they are not behind
 count_front : (place start number : ℕ) (goals : List Node) → number ≤ length goals → start + length (all_labels (take number goals)) ≤ place
@@ -369,10 +370,13 @@ member_is whole first goals lies variable from within place end begin starts are
   where
     here : begin ≡ first + length (all_labels (take from goals))
     here = s ∙ ap (λ l. slice_index_or l from 0) are ∙ start_at first from 0 goals within
+
     found : Some place ≡ next_from (λ list. among list variable) (first + length (all_labels (take from goals))) 0 (uses_of whole)
     found = is ∙ ap (λ n. next_from (λ list. among list variable) n 0 (uses_of whole)) here
+
     ends_at : end ≡ first + length (all_labels goals)
     ends_at = end_is first end goals (e ∙ ap (λ l. slice_index_or l (length goals) 0) are)
+
     decide : (b : Bool) → nat_le end place ≡ b → member_if b (count_of place starts - 1) ≡ next_from (λ goal. in_node goal variable) from 0 goals
     decide true past = place_past whole first goals lies variable from within place found (grind (arith, nat_tests, past, ends_at))
     decide false before = ap (λ l. Some (count_of place l - 1)) are ∙ place_in whole first goals lies variable from within place found (grind (arith, nat_tests, before, ends_at))

@@ -169,11 +169,11 @@ module _ (program other : Program) (call : Procedure → Env → Trace) (calls :
         ∙ ap (once_if (answers_once outputs category))
         (choose_same (λ answer. new second answer) (λ answer. old then_part answer)
         (λ answer. ahead_same (placed (site + forks condition) later (used_in then_part inner) (bound_in then_part signals) then_part) (passed_by later then_part inner) answer
-            ∙ placed_same then_part (site + forks condition) later (used_in then_part inner) (bound_in then_part signals) answer)
+        ∙ placed_same then_part (site + forks condition) later (used_in then_part inner) (bound_in then_part signals) answer)
         (new third env) (new first env)
         ∙ ap (λ u. choose (λ answer. old then_part answer) u (new first env))
         (ahead_same (placed (site + forks condition + forks then_part) later (used_in else_part inner) (bound_in else_part signals) else_part) (passed_by later else_part inner) env
-            ∙ placed_same else_part (site + forks condition + forks then_part) later (used_in else_part inner) (bound_in else_part signals) env)
+        ∙ placed_same else_part (site + forks condition + forks then_part) later (used_in else_part inner) (bound_in else_part signals) env)
         ∙ ap (λ u. choose (λ answer. old then_part answer) (old else_part env) u) (placed_same condition site nothing [] [] env))
     goal_same (Negation goal) site later waits signals outputs category span env =
         around_same waits signals (Negation (placed site nothing [] [] goal)) outputs category span env

@@ -55,7 +55,7 @@ abbrev mutual
       let moved = rights_of (filter (moves goals) waits) in
       let inner = side_by_side (suc site) 1 outputs moved signals [] goals in (
         between (rights_of (filter (stays goals) waits)) (node (Conjunction (Parallel (Some (record { number = site }))) inner.0) outputs category span)
-        (map (λ variable. wait_at span (right_to 0 variable)) outputs),
+            (map (λ variable. wait_at span (right_to 0 variable)) outputs),
         site_info outputs moved signals goals ∷ inner.1,
       )
   entered site waits signals (Disjunction goals) outputs category span =
@@ -69,7 +69,7 @@ abbrev mutual
       let two = outcome (site + length one.1) (those_waits (in_node then_part) inner) (bound_in then_part signals) then_part in
       let three = outcome (site + length one.1 + length two.1) (those_waits (in_node else_part) inner) (bound_in else_part signals) else_part in (
         around (rights_of (those_waits (in_node condition) waits)) []
-        (node (Conditional one.0 (ahead_of two.0 (rights_of (filter (is_passed then_part) inner))) (ahead_of three.0 (rights_of (filter (is_passed else_part) inner)))) outputs category span),
+            (node (Conditional one.0 (ahead_of two.0 (rights_of (filter (is_passed then_part) inner))) (ahead_of three.0 (rights_of (filter (is_passed else_part) inner)))) outputs category span),
         one.1 ++ (two.1 ++ three.1),
       )
   entered site waits signals (Negation goal) outputs category span =

@@ -146,5 +146,5 @@ abbrev pub placed_tasks : Placing → List Task
 placed_tasks placing =
     if may_fail (category_of placing.goal)
     then Enter (record { goal = placing.goal; first = placing.first; waits = placing.waits; signals = [] })
-         ∷ Signals placing.signals (span_of placing.goal) ∷ wraps (length placing.signals) placing.goal
+    ∷ Signals placing.signals (span_of placing.goal) ∷ wraps (length placing.signals) placing.goal
     else Enter placing ∷ []

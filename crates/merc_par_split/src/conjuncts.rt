@@ -52,7 +52,15 @@ pub(crate) fn found_at(
         signals: Vec::new(alloc),
     };
     for producer in 0..members.goals.len() {
-        put_producer(alloc, occurrences, members, &outputs, &moved, producer, &mut found)?;
+        put_producer(
+            alloc,
+            occurrences,
+            members,
+            &outputs,
+            &moved,
+            producer,
+            &mut found,
+        )?;
     }
     Ok(found)
 }
@@ -92,7 +100,16 @@ fn put_producer(
     ensures { OnOk result ((list : List ℕ) → Tells outputs.now (list ∷ []) → (d : Node) → AddsVariables members.now.goals.items list moved.now producer (outputs_of (slice_index_or members.now.goals.items producer d)) found.old found.new) }
 {
     for variable in members.goals[producer].outputs().as_slice() {
-        put_variable(alloc, occurrences, members, outputs, moved, producer, *variable, found)?;
+        put_variable(
+            alloc,
+            occurrences,
+            members,
+            outputs,
+            moved,
+            producer,
+            *variable,
+            found,
+        )?;
     }
     Ok(())
 }
@@ -122,7 +139,11 @@ fn put_variable(
     if group.is_empty() {
         return Ok(());
     }
-    found.moves.push(Moved { variable, child, signal: true })?;
+    found.moves.push(Moved {
+        variable,
+        child,
+        signal: true,
+    })?;
     Ok(())
 }
 
@@ -163,7 +184,10 @@ fn rights_to(alloc: Global, variable: Var, consumers: &[usize]) -> Result<Vec<Ri
 {
     let mut rights = Vec::new(alloc);
     for conjunct in consumers {
-        rights.push(Right { variable, conjunct: *conjunct })?;
+        rights.push(Right {
+            variable,
+            conjunct: *conjunct,
+        })?;
     }
     Ok(rights)
 }
@@ -178,7 +202,11 @@ fn put_cells(
     ensures { OnOk result (cells.new.items ≡ cells.old.items ++ map (λ consumer. record { variable = variable; producer = producer; consumer = consumer }) consumers.now) }
 {
     for consumer in consumers {
-        cells.push(CellInfo { variable, producer, consumer: *consumer })?;
+        cells.push(CellInfo {
+            variable,
+            producer,
+            consumer: *consumer,
+        })?;
     }
     Ok(())
 }
@@ -192,8 +220,17 @@ fn put_waits(
     ensures { OnOk result (waits.new.items ≡ waits.old.items ++ map (λ user. (user, fresh (right_to (suc user) variable))) users.now) }
 {
     for user in users {
-        let right = Right { variable, conjunct: sum(*user, 1)? };
-        waits.push((*user, Awaited { right, later: false }))?;
+        let right = Right {
+            variable,
+            conjunct: sum(*user, 1)?,
+        };
+        waits.push((
+            *user,
+            Awaited {
+                right,
+                later: false,
+            },
+        ))?;
     }
     Ok(())
 }
@@ -231,7 +268,11 @@ pub(crate) fn put_moved(
     put_shares(alloc, occurrences, members, inside, &mut pairs)?;
     for pair in &pairs {
         let child = sum(pair.0, 1)?;
-        found.moves.push(Moved { variable: pair.1.right.variable, child, signal: false })?;
+        found.moves.push(Moved {
+            variable: pair.1.right.variable,
+            child,
+            signal: false,
+        })?;
         found.waits.push(*pair)?;
     }
     Ok(())

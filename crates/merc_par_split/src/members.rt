@@ -33,13 +33,21 @@ impl<'a> Members<'a> {
     /// # Errors
     ///
     /// `NoMemory` where memory was refused.
-    pub(crate) fn of(alloc: Global, goals: Vec<NodeRef<'a>>, first: usize) -> Result<Members<'a>, NoMemory>
+    pub(crate) fn of(
+        alloc: Global,
+        goals: Vec<NodeRef<'a>>,
+        first: usize,
+    ) -> Result<Members<'a>, NoMemory>
         ensures goals { IfOk result (λ members. members.goals.items ≡ goals.entry.items) }
         ensures first { IfOk result (λ members. members.first ≡ first) }
         ensures starts { IfOk result (λ members. members.starts.items ≡ starts_of first goals.entry.items) }
     {
         let starts = starts(alloc, &goals, first)?;
-        Ok(Members { goals, first, starts })
+        Ok(Members {
+            goals,
+            first,
+            starts,
+        })
     }
 
     /// The first goal from this one on that uses the variable.

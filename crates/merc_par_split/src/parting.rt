@@ -9,6 +9,7 @@ ghost use Rattle.merc_par_split.specs.Outcomes.{moves, others, rights_of, stays,
 use crate::members::Members;
 use crate::occurrences::Occurrences;
 use crate::rights::{Awaited, Right};
+use crate::turns::is_used_behind;
 use merc_base::{NoMemory, Sequence};
 use merc_goal_tree::Var;
 use std::alloc::Global;
@@ -75,7 +76,11 @@ pub(crate) fn part_by_variable(
 {
     let mut parted = nothing(alloc);
     for wait in waits {
-        put(wait.right.variable.number() == variable.number(), *wait, &mut parted)?;
+        put(
+            wait.right.variable.number() == variable.number(),
+            *wait,
+            &mut parted,
+        )?;
     }
     Ok(parted)
 }
@@ -132,9 +137,8 @@ fn moves(occurrences: &Occurrences<'_>, members: &Members<'_>, wait: Awaited) ->
     ensures { result ≡ moves (nodes_of members.now.goals.items) wait }
 {
     let variable = wait.right.variable;
-    let Some(user) = members.next_user(occurrences, variable, 0) else {
-        return false;
-    };
-    let behind = user.saturating_add(1);
-    !wait.later && members.next_user(occurrences, variable, behind).is_none()
+    match members.next_user(occurrences, variable, 0) {
+        Some(user) => !wait.later && !is_used_behind(occurrences, members, variable, user),
+        None => false,
+    }
 }

@@ -68,12 +68,7 @@ fn perform<'a>(
 }
 
 // Puts waits behind the others.
-fn put_waits(
-    alloc: Global,
-    rights: &[Right],
-    span: Span,
-    nodes: &mut Nodes,
-) -> Result<(), NoMemory>
+fn put_waits(alloc: Global, rights: &[Right], span: Span, nodes: &mut Nodes) -> Result<(), NoMemory>
     ensures { OnOk result (nodes.new ≡ nodes.old ++ map (wait_at span) rights.now) }
 {
     for right in rights {
@@ -100,12 +95,7 @@ fn put_signals(
 }
 
 // Puts a goal that is det, without outputs.
-fn put_basic(
-    alloc: Global,
-    goal: BasicGoal,
-    span: Span,
-    nodes: &mut Nodes,
-) -> Result<(), NoMemory>
+fn put_basic(alloc: Global, goal: BasicGoal, span: Span, nodes: &mut Nodes) -> Result<(), NoMemory>
     ensures { OnOk result (nodes.new ≡ nodes.old ++ node (Basic goal) [] (Some Category.Det) span ∷ []) }
 {
     nodes.put(Label {

@@ -93,11 +93,7 @@ impl<'a> Tasks<'a> {
 /// # Errors
 ///
 /// `NoMemory` where memory was refused.
-pub(crate) fn relabelled(
-    alloc: Global,
-    goal: &NodeRef<'_>,
-    root: Root,
-) -> Result<Label, NoMemory>
+pub(crate) fn relabelled(alloc: Global, goal: &NodeRef<'_>, root: Root) -> Result<Label, NoMemory>
     ensures { IfOk result (λ label. label ≡ relabelled goal.now root) }
 {
     Ok(Label {

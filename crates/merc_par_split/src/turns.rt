@@ -50,7 +50,13 @@ fn turn_of_wait(
     match members.next_user(occurrences, variable, 0) {
         Some(user) => {
             let later = wait.later || is_used_behind(occurrences, members, variable, user);
-            Some((user, Awaited { right: wait.right, later }))
+            Some((
+                user,
+                Awaited {
+                    right: wait.right,
+                    later,
+                },
+            ))
         }
         None => None,
     }
@@ -101,5 +107,7 @@ pub(crate) fn is_used_behind(
     if number >= members.goals.as_slice().len() {
         return false;
     }
-    members.next_user(occurrences, variable, number + 1).is_some()
+    members
+        .next_user(occurrences, variable, number + 1)
+        .is_some()
 }
