@@ -4,7 +4,13 @@ pub mod Forks
 pub mod Split
 pub mod Sites
 pub mod SitesExamples
+pub mod Ranks
+pub mod Rows
+pub mod Uses
+pub mod Outcomes
 pub mod Tasks
+pub mod Members
+pub mod Constructs
 pub mod SplitLaws
 pub mod SplitLawsExamples
 pub mod SplitExamples

@@ -1,116 +1,279 @@
-//! The conjuncts of an `&`, each with what it waits for and what it signals.
-use crate::members::{Members, leave_members, lists};
-use crate::occurrences::Occurrences;
+//! The conjuncts of an `&`: what each waits for and signals, the cells between them, and the rights that move into them.
+ghost use Rattle.std.specs.Prelude.{◌≡◌, ◌<◌, ◌++◌, ℕ, suc, List, [], ◌∷◌, map, length, slice_index_or, IfOk, OnOk, if◌then◌else◌};
+ghost use Rattle.std.specs.List.{flat_map};
+ghost use Rattle.merc_graded_tree.specs.Nodes.{Node, outputs_of};
+ghost use Rattle.merc_par_split.specs.Members.{move_of, wait_shares, Adds, AddsVariable, AddsVariables, Finds, IsLaid};
+ghost use Rattle.merc_par_split.specs.Outcomes.{fresh};
+ghost use Rattle.merc_par_split.specs.Rights.{right_to, with_rights};
+ghost use Rattle.merc_par_split.specs.Ranks.{Rise};
+ghost use Rattle.merc_par_split.specs.Rows.{row_of, Tells};
+
+use crate::arms::put_shares;
+use crate::members::Members;
+use crate::occurrences::{Index, Occurrences, put_all};
 use crate::rights::{Awaited, Right, put_right};
-use crate::tasks::{Placing, Task, leave_ahead, past_inner, put_waits};
+use crate::rows::Rows;
+use crate::sites::{CellInfo, Moved};
+use crate::tasks::sum;
 use merc_base::NoMemory;
 use merc_goal_tree::Var;
-use merc_graded_tree::{Nodes, Parts, Site};
 use std::alloc::Global;
 
-/// Leaves the conjuncts of an `&` at a site. What several of them use, or what is used behind, is waited for before it, and its
-/// outputs behind it.
-pub(crate) fn place_conjuncts<'a>(
+/// What is found at an `&`. Conjuncts are numbered from 0 where they come first in a pair, and else from 1.
+#[derive(Drop)]
+pub(crate) struct Found {
+    pub(crate) cells: Vec<CellInfo>,
+    pub(crate) moves: Vec<Moved>,
+    pub(crate) waits: Vec<(usize, Awaited)>,
+    pub(crate) signals: Vec<(usize, Right)>,
+}
+
+/// What the variables give that conjuncts bind.
+///
+/// # Errors
+///
+/// `NoMemory` where memory was refused.
+pub(crate) fn found_at(
     alloc: Global,
-    occurrences: &Occurrences,
-    goals: Parts<'a>,
-    placing: Placing<'a>,
-    site: Site,
-    tasks: &mut Vec<Task<'a>>,
-    nodes: &mut Nodes,
-) -> Result<(), NoMemory> {
-    let members = Members::of(alloc, goals, past_inner(&placing))?;
-    let mut waits = lists(alloc, members.goals.len())?;
-    let signals = own_cells(alloc, occurrences, &members, &placing, &mut waits)?;
-    let mut before = Vec::new(alloc);
-    for wait in &placing.waits {
-        match only_user(occurrences, &members, *wait) {
-            Some(user) => waits[user].push(*wait)?,
-            None => before.push(*wait)?,
-        }
+    occurrences: &Occurrences<'_>,
+    members: &Members<'_>,
+    outputs: &[Var],
+    signals: &[Right],
+) -> Result<Found, NoMemory>
+    requires { IsLaid occurrences.now members.now }
+    ensures { IfOk result (λ found. Finds members.now.goals.items outputs.now signals.now found) }
+{
+    let outputs = set_of(alloc, outputs)?;
+    let moved = by_variable(alloc, signals)?;
+    let mut found = Found {
+        cells: Vec::new(alloc),
+        moves: Vec::new(alloc),
+        waits: Vec::new(alloc),
+        signals: Vec::new(alloc),
+    };
+    for producer in 0..members.goals.len() {
+        put_producer(
+            alloc,
+            occurrences,
+            members,
+            &outputs,
+            &moved,
+            producer,
+            &mut found,
+        )?;
     }
-    let behind = parent_waits(alloc, &placing)?;
-    leave_ahead(&placing.goal, before.len(), &behind, tasks)?;
-    put_waits(alloc, &before, placing.goal.span(), nodes)?;
-    tasks.push(Task::Close(placing.goal.copy(), Some(site)))?;
-    leave_members(members, waits, signals, tasks)
+    Ok(found)
 }
 
-// The one conjunct that uses a variable which is not used behind.
-fn only_user(occurrences: &Occurrences, members: &Members<'_>, wait: Awaited) -> Option<usize> {
-    let variable = wait.right.variable;
-    let user = members.user_from(occurrences, variable, 0)?;
-    if wait.later || members.user_from(occurrences, variable, user + 1).is_some() {
-        return None;
-    }
-    Some(user)
+// The variables of a list, to be asked for.
+fn set_of(alloc: Global, variables: &[Var]) -> Result<Index, NoMemory>
+    ensures { IfOk result (λ set. Tells set (variables.now ∷ [])) }
+{
+    let mut pairs = Vec::new(alloc);
+    put_all(variables, 0, &mut pairs)?;
+    Index::of(pairs)
 }
 
-// The parent's waits for the outputs.
-fn parent_waits(alloc: Global, placing: &Placing<'_>) -> Result<Vec<Right>, NoMemory> {
-    let mut waits = Vec::new(alloc);
-    for variable in placing.goal.outputs().as_slice() {
-        waits.push(Right { variable: *variable, conjunct: 0 })?;
+// Rights by variable.
+fn by_variable(alloc: Global, rights: &[Right]) -> Result<Rows<Right>, NoMemory>
+    ensures { IfOk result (λ rows. (variable : ℕ) → row_of variable rows ≡ row_of variable (map (λ right. (right.variable, right)) rights.now)) }
+{
+    let mut pairs = Vec::new(alloc);
+    for right in rights {
+        pairs.push((right.variable.number(), *right))?;
     }
-    Ok(waits)
+    Rows::of(pairs)
 }
 
-// The rights of each conjunct to signal what it binds. Those to wait for it are put behind the others of the conjuncts that use
-// it.
-fn own_cells(
+// Puts what the variables give that a conjunct binds.
+fn put_producer(
     alloc: Global,
-    occurrences: &Occurrences,
+    occurrences: &Occurrences<'_>,
     members: &Members<'_>,
-    placing: &Placing<'_>,
-    waits: &mut Vec<Vec<Awaited>>,
-) -> Result<Vec<Vec<Right>>, NoMemory> {
-    let mut outputs = Vec::from_slice(alloc, placing.goal.outputs().as_slice())?;
-    outputs.sort()?;
-    let mut signals = lists(alloc, members.goals.len())?;
-    for (producer, goal) in members.goals.iter().enumerate() {
-        for variable in goal.outputs().as_slice() {
-            let own = &mut signals[producer];
-            let from = own.len();
-            put_cells(occurrences, members, producer + 1, *variable, own, waits)?;
-            if outputs.binary_search(variable).is_ok() {
-                own.push(Right { variable: *variable, conjunct: 0 })?;
-            }
-            put_moved(*variable, &placing.signals, from, own)?;
-        }
-    }
-    Ok(signals)
-}
-
-// Puts the rights for a variable of the conjuncts from one on that use it, to signal and to wait.
-fn put_cells(
-    occurrences: &Occurrences,
-    members: &Members<'_>,
-    from: usize,
-    variable: Var,
-    signals: &mut Vec<Right>,
-    waits: &mut Vec<Vec<Awaited>>,
-) -> Result<(), NoMemory> {
-    let mut from = from;
-    while let Some(user) = members.user_from(occurrences, variable, from) {
-        let right = Right { variable, conjunct: user + 1 };
-        signals.push(right)?;
-        waits[user].push(Awaited { right, later: false })?;
-        from = user + 1;
+    outputs: &Index,
+    moved: &Rows<Right>,
+    producer: usize,
+    found: &mut Found,
+) -> Result<(), NoMemory>
+    requires laid { IsLaid occurrences.now members.now }
+    requires within { producer < length members.now.goals.items }
+    ensures { OnOk result ((list : List ℕ) → Tells outputs.now (list ∷ []) → (d : Node) → AddsVariables members.now.goals.items list moved.now producer (outputs_of (slice_index_or members.now.goals.items producer d)) found.old found.new) }
+{
+    for variable in members.goals[producer].outputs().as_slice() {
+        put_variable(
+            alloc,
+            occurrences,
+            members,
+            outputs,
+            moved,
+            producer,
+            *variable,
+            found,
+        )?;
     }
     Ok(())
 }
 
-// Puts the rights that move in for a variable among those from an index on.
-fn put_moved(
+// Puts what a variable gives that a conjunct binds.
+fn put_variable(
+    alloc: Global,
+    occurrences: &Occurrences<'_>,
+    members: &Members<'_>,
+    outputs: &Index,
+    moved: &Rows<Right>,
+    producer: usize,
     variable: Var,
-    moved: &[Right],
-    from: usize,
-    signals: &mut Vec<Right>,
-) -> Result<(), NoMemory> {
-    for right in moved {
-        if right.variable == variable {
-            put_right(*right, from, signals)?;
-        }
+    found: &mut Found,
+) -> Result<(), NoMemory>
+    requires { IsLaid occurrences.now members.now }
+    ensures { OnOk result ((list : List ℕ) → Tells outputs.now (list ∷ []) → AddsVariable members.now.goals.items list moved.now producer variable found.old found.new) }
+{
+    let child = sum(producer, 1)?;
+    let users = members.users(alloc, occurrences, variable, child)?;
+    let consumers = consumers(alloc, &users, outputs.next(variable, 0).is_some())?;
+    let group = moved.row(variable.number());
+    let own = own_signals(alloc, variable, &consumers, group)?;
+    put_cells(variable, child, &consumers, &mut found.cells)?;
+    put_waits(variable, &users, &mut found.waits)?;
+    put_signals(producer, &own, &mut found.signals)?;
+    if group.is_empty() {
+        return Ok(());
+    }
+    found.moves.push(Moved {
+        variable,
+        child,
+        signal: true,
+    })?;
+    Ok(())
+}
+
+// Who waits for a variable: conjuncts of these numbers from 0 on, by their numbers from 1, and the goals behind if they do.
+fn consumers(alloc: Global, users: &[usize], behind: bool) -> Result<Vec<usize>, NoMemory>
+    ensures { IfOk result (λ consumers. consumers.items ≡ map suc users.now ++ (if behind then 0 ∷ [] else [])) }
+{
+    let mut consumers = Vec::new(alloc);
+    for user in users {
+        consumers.push(sum(*user, 1)?)?;
+    }
+    if behind {
+        consumers.push(0)?;
+    }
+    Ok(consumers)
+}
+
+// The rights of a conjunct to signal a variable to these, and those that move in.
+fn own_signals(
+    alloc: Global,
+    variable: Var,
+    consumers: &[usize],
+    group: &[(usize, Right)],
+) -> Result<Vec<Right>, NoMemory>
+    requires { Rise (map (λ conjunct. right_to conjunct variable) consumers.now) }
+    ensures { IfOk result (λ own. own.items ≡ with_rights (map (λ item. item.1) group.now) (map (λ conjunct. right_to conjunct variable) consumers.now)) }
+{
+    let mut own = rights_to(alloc, variable, consumers)?;
+    for item in group {
+        put_right(item.1, &mut own)?;
+    }
+    Ok(own)
+}
+
+// Rights for a variable.
+fn rights_to(alloc: Global, variable: Var, consumers: &[usize]) -> Result<Vec<Right>, NoMemory>
+    ensures { IfOk result (λ rights. rights.items ≡ map (λ conjunct. right_to conjunct variable) consumers.now) }
+{
+    let mut rights = Vec::new(alloc);
+    for conjunct in consumers {
+        rights.push(Right {
+            variable,
+            conjunct: *conjunct,
+        })?;
+    }
+    Ok(rights)
+}
+
+// Puts the cells of a variable behind the others.
+fn put_cells(
+    variable: Var,
+    producer: usize,
+    consumers: &[usize],
+    cells: &mut Vec<CellInfo>,
+) -> Result<(), NoMemory>
+    ensures { OnOk result (cells.new.items ≡ cells.old.items ++ map (λ consumer. record { variable = variable; producer = producer; consumer = consumer }) consumers.now) }
+{
+    for consumer in consumers {
+        cells.push(CellInfo {
+            variable,
+            producer,
+            consumer: *consumer,
+        })?;
+    }
+    Ok(())
+}
+
+// Puts the rights of conjuncts to wait for a variable behind the others.
+fn put_waits(
+    variable: Var,
+    users: &[usize],
+    waits: &mut Vec<(usize, Awaited)>,
+) -> Result<(), NoMemory>
+    ensures { OnOk result (waits.new.items ≡ waits.old.items ++ map (λ user. (user, fresh (right_to (suc user) variable))) users.now) }
+{
+    for user in users {
+        let right = Right {
+            variable,
+            conjunct: sum(*user, 1)?,
+        };
+        waits.push((
+            *user,
+            Awaited {
+                right,
+                later: false,
+            },
+        ))?;
+    }
+    Ok(())
+}
+
+// Puts the rights of a conjunct to signal behind the others.
+fn put_signals(
+    producer: usize,
+    own: &[Right],
+    signals: &mut Vec<(usize, Right)>,
+) -> Result<(), NoMemory>
+    ensures { OnOk result (signals.new.items ≡ signals.old.items ++ map (λ right. (producer, right)) own.now) }
+{
+    for right in own {
+        signals.push((producer, *right))?;
+    }
+    Ok(())
+}
+
+/// Puts rights to wait that move into the conjuncts which use their variables behind what is found.
+///
+/// # Errors
+///
+/// `NoMemory` where memory was refused.
+pub(crate) fn put_moved(
+    alloc: Global,
+    occurrences: &Occurrences<'_>,
+    members: &Members<'_>,
+    inside: &[Awaited],
+    found: &mut Found,
+) -> Result<(), NoMemory>
+    requires { IsLaid occurrences.now members.now }
+    ensures { OnOk result (Adds found.old found.new [] (map move_of (flat_map (wait_shares members.now.goals.items) inside.now)) (flat_map (wait_shares members.now.goals.items) inside.now) []) }
+{
+    let mut pairs = Vec::new(alloc);
+    put_shares(alloc, occurrences, members, inside, &mut pairs)?;
+    for pair in &pairs {
+        let child = sum(pair.0, 1)?;
+        found.moves.push(Moved {
+            variable: pair.1.right.variable,
+            child,
+            signal: false,
+        })?;
+        found.waits.push(*pair)?;
     }
     Ok(())
 }

@@ -1,7 +1,16 @@
-//! The goals that a goal joins, each with the rights that go to it.
-use crate::occurrences::Occurrences;
+//! The goals that a goal joins, and which of them use a variable.
+ghost use Rattle.std.specs.Prelude.{◌≡◌, ◌-◌, ◌++◌, nat_le, [], map, slice_index_or, Some, None, IfOk, OnOk, if◌then◌else◌};
+ghost use Rattle.std.specs.List.Sorted.{IsNonDecreasing};
+ghost use Rattle.merc_graded_tree.specs.Nodes.{outputs_of};
+ghost use Rattle.merc_graded_tree.specs.Variables.{among, in_node};
+ghost use Rattle.merc_par_split.specs.Members.{count_of, IsLaid};
+ghost use Rattle.merc_par_split.specs.Rows.{next_from, numbers_from, Tells};
+ghost use Rattle.merc_par_split.specs.Tasks.{member_tasks, shares_of, starts_of};
+
+use crate::occurrences::{Index, Occurrences, put_all};
 use crate::rights::{Awaited, Right};
-use crate::tasks::{Placing, Task, leave_ahead, past_inner};
+use crate::rows::Rows;
+use crate::tasks::{Placing, Task, Tasks, leave_passing, sum};
 use merc_base::NoMemory;
 use merc_goal_tree::Var;
 use merc_graded_tree::{NodeRef, Parts};
@@ -12,202 +21,185 @@ use std::alloc::Global;
 pub(crate) struct Members<'a> {
     /// From the first to the last.
     pub(crate) goals: Vec<NodeRef<'a>>,
+    /// The index of the first part of the first.
+    pub(crate) first: usize,
     /// One more than there are goals: the last one is the index behind them.
     pub(crate) starts: Vec<usize>,
 }
 
 impl<'a> Members<'a> {
-    /// Those whose parts stand before this index.
-    pub(crate) fn of(alloc: Global, parts: Parts<'a>, past: usize) -> Result<Members<'a>, NoMemory> {
-        let mut goals = Vec::new(alloc);
-        let mut starts = Vec::new(alloc);
-        let mut left = parts;
-        let mut start = past;
-        starts.push(start)?;
-        while let Some(last) = left.take_last() {
-            start -= last.part_count();
-            goals.push(last)?;
-            starts.push(start)?;
-        }
-        goals.reverse();
-        starts.reverse();
-        Ok(Members { goals, starts })
-    }
-
-    /// The index behind all.
-    pub(crate) fn past(&self) -> usize {
-        self.starts[self.goals.len()]
+    /// These, where the parts of the first stand from an index on.
+    ///
+    /// # Errors
+    ///
+    /// `NoMemory` where memory was refused.
+    pub(crate) fn of(
+        alloc: Global,
+        goals: Vec<NodeRef<'a>>,
+        first: usize,
+    ) -> Result<Members<'a>, NoMemory>
+        ensures goals { IfOk result (λ members. members.goals.items ≡ goals.entry.items) }
+        ensures first { IfOk result (λ members. members.first ≡ first) }
+        ensures starts { IfOk result (λ members. members.starts.items ≡ starts_of first goals.entry.items) }
+    {
+        let starts = starts(alloc, &goals, first)?;
+        Ok(Members {
+            goals,
+            first,
+            starts,
+        })
     }
 
     /// The first goal from this one on that uses the variable.
-    pub(crate) fn user_from(
+    pub(crate) fn next_user(
         &self,
-        occurrences: &Occurrences,
+        occurrences: &Occurrences<'_>,
         variable: Var,
         from: usize,
-    ) -> Option<usize> {
-        let place = occurrences.first_from(variable, self.starts[from])?;
-        if place >= self.past() {
+    ) -> Option<usize>
+        requires { IsLaid occurrences.now self.now }
+        ensures { result ≡ next_from (λ goal. in_node goal variable) from 0 self.now.goals.items }
+    {
+        let goals = self.goals.as_slice();
+        let starts = self.starts.as_slice();
+        if from >= goals.len() {
             return None;
         }
-        Some(self.starts.partition_point(|start| *start <= place) - 1)
+        match occurrences.first_from(variable, start_of(starts, from)) {
+            Some(place) => member_of(starts, place, start_of(starts, goals.len())),
+            None => None,
+        }
+    }
+
+    /// The goals from this one on that use the variable. It takes time of the order of their number times the logarithm of
+    /// the whole's size.
+    ///
+    /// # Errors
+    ///
+    /// `NoMemory` where memory was refused.
+    pub(crate) fn users(
+        &self,
+        alloc: Global,
+        occurrences: &Occurrences<'_>,
+        variable: Var,
+        from: usize,
+    ) -> Result<Vec<usize>, NoMemory>
+        requires { IsLaid occurrences.now self.now }
+        ensures { IfOk result (λ users. users.items ≡ numbers_from (λ goal. in_node goal variable) from 0 self.now.goals.items) }
+    {
+        let mut users = Vec::new(alloc);
+        let mut next = from;
+        while let Some(user) = self.next_user(occurrences, variable, next) {
+            users.push(user)?;
+            next = sum(user, 1)?;
+        }
+        Ok(users)
     }
 }
 
-// A list for each of so many goals.
-pub(crate) fn lists<T: Drop>(alloc: Global, count: usize) -> Result<Vec<Vec<T>>, NoMemory> {
-    let mut lists = Vec::new(alloc);
-    for _ in 0..count {
-        lists.push(Vec::new(alloc))?;
+// The start of this number.
+fn start_of(starts: &[usize], number: usize) -> usize
+    ensures { result ≡ slice_index_or starts.now number 0 }
+{
+    if number < starts.len() {
+        starts[number]
+    } else {
+        0
     }
-    Ok(lists)
 }
 
-/// Leaves goals, each without rights.
-pub(crate) fn place_alone<'a>(
-    alloc: Global,
-    goals: Parts<'a>,
-    past: usize,
-    tasks: &mut Vec<Task<'a>>,
-) -> Result<(), NoMemory> {
-    let mut left = goals;
-    let mut start = past;
+// The number of the goal that has the part at a place, None where the place is past the end.
+fn member_of(starts: &[usize], place: usize, end: usize) -> Option<usize>
+    requires { IsNonDecreasing starts.now }
+    ensures { result ≡ (if nat_le end place then None else Some (count_of place starts.now - 1)) }
+{
+    if end <= place {
+        return None;
+    }
+    Some(count_up_to(starts, place).saturating_sub(1))
+}
+
+// How many of these places, which rise, stand before another or are it.
+fn count_up_to(places: &[usize], place: usize) -> usize
+    requires { IsNonDecreasing places.now }
+    ensures { result ≡ count_of place places.now }
+{
+    places.partition_point(|other| *other <= place)
+}
+
+// Where the parts of goals start, and where they end.
+fn starts(alloc: Global, goals: &[NodeRef<'_>], first: usize) -> Result<Vec<usize>, NoMemory>
+    ensures { IfOk result (λ starts. starts.items ≡ starts_of first goals.now) }
+{
+    let mut starts = Vec::new(alloc);
+    let mut start = first;
+    for goal in goals {
+        starts.push(start)?;
+        start = sum(start, goal.part_count())?;
+    }
+    starts.push(start)?;
+    Ok(starts)
+}
+
+/// A list of goals.
+///
+/// # Errors
+///
+/// `NoMemory` where memory was refused.
+pub(crate) fn listed<'a>(alloc: Global, parts: Parts<'a>) -> Result<Vec<NodeRef<'a>>, NoMemory>
+    ensures { IfOk result (λ goals. goals.items ≡ parts.entry) }
+{
+    let mut goals = Vec::new(alloc);
+    let mut left = parts;
     while let Some(last) = left.take_last() {
-        start -= last.part_count();
-        tasks.push(Task::alone(alloc, last, start))?;
+        goals.push(last)?;
     }
-    Ok(())
+    goals.reverse();
+    Ok(goals)
 }
 
-/// Leaves goals one after the other: each right goes to the first one that uses its variable, or binds it.
-pub(crate) fn place_in_turn<'a>(
-    alloc: Global,
-    occurrences: &Occurrences,
-    goals: Parts<'a>,
-    placing: Placing<'a>,
-    tasks: &mut Vec<Task<'a>>,
-) -> Result<(), NoMemory> {
-    let members = Members::of(alloc, goals, past_inner(&placing))?;
-    let mut waits = lists(alloc, members.goals.len())?;
-    for wait in &placing.waits {
-        if let Some(user) = members.user_from(occurrences, wait.right.variable, 0) {
-            let behind = members.user_from(occurrences, wait.right.variable, user + 1).is_some();
-            waits[user].push(Awaited { right: wait.right, later: wait.later || behind })?;
-        }
+/// The numbers of goals by the variables that they bind.
+///
+/// # Errors
+///
+/// `NoMemory` where memory was refused.
+pub(crate) fn binders(alloc: Global, goals: &[NodeRef<'_>]) -> Result<Index, NoMemory>
+    ensures { IfOk result (λ index. Tells index (map outputs_of goals.now)) }
+{
+    let mut pairs = Vec::new(alloc);
+    for (number, goal) in goals.iter().enumerate() {
+        put_all(goal.outputs().as_slice(), number, &mut pairs)?;
     }
-    let signals = first_binders(alloc, &members, &placing.signals)?;
-    leave_members(members, waits, signals, tasks)
+    Index::of(pairs)
 }
 
-// For each goal the rights to signal what it binds, and none of the goals before it.
-fn first_binders(
-    alloc: Global,
-    members: &Members<'_>,
-    signals: &[Right],
-) -> Result<Vec<Vec<Right>>, NoMemory> {
-    let mut found = lists(alloc, members.goals.len())?;
-    let mut binders = Vec::new(alloc);
-    for (number, goal) in members.goals.iter().enumerate() {
-        for variable in goal.outputs().as_slice() {
-            binders.push((*variable, number))?;
-        }
-    }
-    binders.sort()?;
-    for right in signals {
-        let place = binders.partition_point(|binder| binder.0 < right.variable);
-        if let Some((variable, number)) = binders.get(place)
-            && *variable == right.variable
-        {
-            found[*number].push(*right)?;
-        }
-    }
-    Ok(found)
-}
-
-// Leaves goals with their rights, the last one first.
+/// Leaves goals, each with the rights of its number and what is waited for behind it.
+///
+/// # Errors
+///
+/// `NoMemory` where memory was refused.
 pub(crate) fn leave_members<'a>(
+    alloc: Global,
     members: Members<'a>,
-    waits: Vec<Vec<Awaited>>,
-    signals: Vec<Vec<Right>>,
-    tasks: &mut Vec<Task<'a>>,
-) -> Result<(), NoMemory> {
-    let Members { mut goals, starts } = members;
-    let mut waits = waits;
-    let mut signals = signals;
-    while let (Some(goal), Some(waits), Some(signals)) = (goals.pop(), waits.pop(), signals.pop()) {
-        let first = starts[goals.len()];
-        tasks.push(Task::Place(Placing { goal, first, waits, signals }))?;
+    waits: &Rows<Awaited>,
+    signals: &Rows<Right>,
+    passed: &Rows<Right>,
+    tasks: &mut Tasks<'a>,
+) -> Result<(), NoMemory>
+    requires { members.starts.items ≡ starts_of members.first members.goals.items }
+    ensures { OnOk result (tasks.new ≡ member_tasks members.entry.first (shares_of 0 members.entry.goals.items waits.now signals.now passed.now) ++ tasks.old) }
+{
+    let Members { goals, starts, .. } = members;
+    let mut goals = goals;
+    while let Some(goal) = goals.pop() {
+        let number = goals.len();
+        leave_passing(alloc, &goal, passed.listed(alloc, number)?, tasks)?;
+        tasks.push(Task::Place(Placing {
+            goal,
+            first: start_of(&starts, number),
+            waits: waits.listed(alloc, number)?,
+            signals: signals.listed(alloc, number)?,
+        }))?;
     }
     Ok(())
-}
-
-/// Leaves the arms of a switch.
-pub(crate) fn place_arms<'a>(
-    alloc: Global,
-    occurrences: &Occurrences,
-    arms: Parts<'a>,
-    past: usize,
-    inner: &Placing<'a>,
-    tasks: &mut Vec<Task<'a>>,
-) -> Result<(), NoMemory> {
-    let mut left = arms;
-    let mut behind = past;
-    while let Some(arm) = left.take_last() {
-        behind -= arm.part_count();
-        leave_arm(alloc, occurrences, arm, behind, inner, tasks)?;
-    }
-    Ok(())
-}
-
-/// Leaves the then part, whose parts stand from this index on, and the else part behind it.
-pub(crate) fn place_parts<'a>(
-    alloc: Global,
-    occurrences: &Occurrences,
-    start: usize,
-    then_part: NodeRef<'a>,
-    else_part: NodeRef<'a>,
-    inner: &Placing<'a>,
-    tasks: &mut Vec<Task<'a>>,
-) -> Result<(), NoMemory> {
-    let behind = start + then_part.part_count();
-    leave_arm(alloc, occurrences, else_part, behind, inner, tasks)?;
-    leave_arm(alloc, occurrences, then_part, start, inner, tasks)
-}
-
-// Leaves an arm. It waits at its end for what it does not use and what is used behind the whole.
-fn leave_arm<'a>(
-    alloc: Global,
-    occurrences: &Occurrences,
-    arm: NodeRef<'a>,
-    first: usize,
-    inner: &Placing<'a>,
-    tasks: &mut Vec<Task<'a>>,
-) -> Result<(), NoMemory> {
-    let past = first + arm.part_count();
-    let mut waits = Vec::new(alloc);
-    let mut passed = Vec::new(alloc);
-    for wait in &inner.waits {
-        if occurrences.is_between(wait.right.variable, first, past) {
-            waits.push(*wait)?;
-        } else if wait.later {
-            passed.push(wait.right)?;
-        }
-    }
-    leave_ahead(&arm, 0, &passed, tasks)?;
-    let signals = bound_in(alloc, &arm, &inner.signals)?;
-    tasks.push(Task::Place(Placing { goal: arm, first, waits, signals }))?;
-    Ok(())
-}
-
-// The rights to signal what a goal binds.
-fn bound_in(alloc: Global, goal: &NodeRef<'_>, signals: &[Right]) -> Result<Vec<Right>, NoMemory> {
-    let mut outputs = Vec::from_slice(alloc, goal.outputs().as_slice())?;
-    outputs.sort()?;
-    let mut bound = Vec::new(alloc);
-    for right in signals {
-        if outputs.binary_search(&right.variable).is_ok() {
-            bound.push(*right)?;
-        }
-    }
-    Ok(bound)
 }

@@ -1,9 +1,11 @@
 //! Rights of parallel conjuncts to wait for values and to signal them.
-ghost use Rattle.std.specs.Prelude.{◌≡◌};
-ghost use Rattle.merc_par_split.specs.Rights.{is_sooner};
+ghost use Rattle.std.specs.Prelude.{◌≡◌, ◌∷◌, [], OnOk};
+ghost use Rattle.merc_par_split.specs.Rights.{is_sooner, with_right};
+ghost use Rattle.merc_par_split.specs.Ranks.{FitsAt, Rise};
 
 use merc_base::NoMemory;
 use merc_goal_tree::Var;
+use std::marker::Model;
 
 /// A right to wait for a variable's value, or to signal it: to the conjunct of this number, or to the goals behind the
 /// `&`, where it is 0.
@@ -11,6 +13,16 @@ use merc_goal_tree::Var;
 pub(crate) struct Right {
     pub(crate) variable: Var,
     pub(crate) conjunct: usize,
+}
+
+impl Model for Right {
+    ghost use Rattle.merc_par_split.specs.Rights.{Right as MeantRight};
+
+    ghost Value = { MeantRight };
+
+    ghost view = { λ r. record { variable = r.variable; conjunct = r.conjunct } };
+
+    ghost inverse = { λ r. record { variable = r.variable; conjunct = r.conjunct } };
 }
 
 /// A right to wait, and whether the variable is also used behind the goal that has it, on the way through it.
@@ -27,17 +39,31 @@ fn is_sooner(number: usize, other: usize) -> bool
     number != 0 && (other == 0 || number < other)
 }
 
-/// Puts a right in its place among others from an index on, behind those of its number.
-pub(crate) fn put_right(
-    right: Right,
-    from: usize,
-    rights: &mut Vec<Right>,
-) -> Result<(), NoMemory> {
-    rights.push(right)?;
-    let mut at = rights.len() - 1;
-    while at > from && is_sooner(right.conjunct, rights[at - 1].conjunct) {
-        rights.swap(at - 1, at);
-        at -= 1;
-    }
+/// Puts a right in its place among others that are in order, behind those of its number.
+///
+/// # Errors
+///
+/// `NoMemory` where memory was refused.
+pub(crate) fn put_right(right: Right, rights: &mut Vec<Right>) -> Result<(), NoMemory>
+    requires { Rise rights.old.items }
+    ensures put { OnOk result (rights.new.items ≡ with_right right rights.old.items) }
+    ensures rise { OnOk result (Rise rights.new.items) }
+{
+    let at = place_of(right.conjunct, rights);
+    rights.insert(at, right)?;
     Ok(())
+}
+
+// Where a right to a conjunct goes among others.
+fn place_of(conjunct: usize, rights: &[Right]) -> usize
+    ensures { FitsAt conjunct rights.now result }
+{
+    let mut left = rights;
+    while let [front @ .., last] = left {
+        if !is_sooner(conjunct, last.conjunct) {
+            return left.len();
+        }
+        left = front;
+    }
+    0
 }

@@ -1,12 +1,20 @@
 //! The split trees of goals.
-ghost use Rattle.std.specs.Prelude.{◌≡◌, ◌+◌, [], ◌∷◌, ◌++◌, IfOk, OnOk};
-ghost use Rattle.merc_par_split.specs.Forks.{forks};
+ghost use Rattle.std.specs.Prelude.{◌≡◌, [], ◌∷◌, ◌++◌, length, map, OnOk};
+ghost use Rattle.std.specs.Prelude.{Some};
+ghost use Rattle.merc_graded_tree.specs.Nodes.{node, Basic};
+ghost use Rattle.merc_base.specs.declared.category.Category.{Category};
+ghost use Rattle.merc_par_split.specs.Rights.{signal_at, wait_at};
+ghost use Rattle.merc_par_split.specs.Sites.{sites as planned_sites};
 ghost use Rattle.merc_par_split.specs.Split.{split};
+ghost use Rattle.merc_par_split.specs.Tasks.{HaveEnough, LiesTask, Performs};
 
 use crate::occurrences::Occurrences;
-use crate::tasks::{Task, perform};
-use merc_base::NoMemory;
-use merc_graded_tree::{NodeRef, Nodes};
+use crate::placing::{enter, place, without_rights};
+use crate::rights::Right;
+use crate::sites::SiteInfo;
+use crate::tasks::{Task, Tasks};
+use merc_base::{Category, NoMemory, Sequence, Span};
+use merc_graded_tree::{BasicGoal, Label, NodeRef, Nodes, Root};
 use std::alloc::Global;
 
 /// Puts the split tree of a goal behind the others, and its sites behind the others. The parallel conjunctions of the goal
@@ -26,13 +34,74 @@ pub fn split(
     sites: &mut Vec<SiteInfo>,
 ) -> Result<(), NoMemory>
     ensures tree { OnOk result (nodes.new ≡ nodes.old ++ split (length sites.old.items) goal.now ∷ []) }
-    ensures sites { OnOk result (sites.new.items ≡ sites.old.items ++ sites goal.now) }
+    ensures sites { OnOk result (sites.new.items ≡ sites.old.items ++ planned_sites goal.now) }
 {
     let occurrences = Occurrences::of(alloc, goal)?;
-    let mut tasks = Vec::new(alloc);
-    tasks.push(Task::alone(alloc, goal.copy(), 0))?;
+    let mut tasks = Tasks::new(alloc);
+    tasks.push(without_rights(alloc, goal.copy(), 0))?;
     while let Some(task) = tasks.pop() {
         perform(alloc, &occurrences, task, &mut tasks, nodes, sites)?;
     }
     Ok(())
+}
+
+// Does one task. It may leave others to be done.
+fn perform<'a>(
+    alloc: Global,
+    occurrences: &Occurrences<'_>,
+    task: Task<'a>,
+    tasks: &mut Tasks<'a>,
+    nodes: &mut Nodes,
+    sites: &mut Vec<SiteInfo>,
+) -> Result<(), NoMemory>
+    requires lies { LiesTask occurrences.now task }
+    requires enough { HaveEnough (length nodes.old) (task ∷ tasks.old) }
+    ensures { OnOk result (Performs occurrences.now task.entry tasks.old (record { goals = nodes.old; sites = sites.old.items }) tasks.new (record { goals = nodes.new; sites = sites.new.items })) }
+{
+    match task {
+        Task::Place(placing) => place(alloc, placing, tasks),
+        Task::Enter(placing) => enter(alloc, occurrences, placing, tasks, sites),
+        Task::Waits(rights, span) => put_waits(alloc, rights.as_slice(), span, nodes),
+        Task::Signals(rights, span) => put_signals(alloc, rights.as_slice(), span, nodes),
+        Task::Close(label) => nodes.put(label),
+    }
+}
+
+// Puts waits behind the others.
+fn put_waits(alloc: Global, rights: &[Right], span: Span, nodes: &mut Nodes) -> Result<(), NoMemory>
+    ensures { OnOk result (nodes.new ≡ nodes.old ++ map (wait_at span) rights.now) }
+{
+    for right in rights {
+        let goal = BasicGoal::Wait(right.variable, right.conjunct);
+        put_basic(alloc, goal, span, nodes)?;
+    }
+    Ok(())
+}
+
+// Puts signals behind the others.
+fn put_signals(
+    alloc: Global,
+    rights: &[Right],
+    span: Span,
+    nodes: &mut Nodes,
+) -> Result<(), NoMemory>
+    ensures { OnOk result (nodes.new ≡ nodes.old ++ map (signal_at span) rights.now) }
+{
+    for right in rights {
+        let goal = BasicGoal::Signal(right.variable, right.conjunct);
+        put_basic(alloc, goal, span, nodes)?;
+    }
+    Ok(())
+}
+
+// Puts a goal that is det, without outputs.
+fn put_basic(alloc: Global, goal: BasicGoal, span: Span, nodes: &mut Nodes) -> Result<(), NoMemory>
+    ensures { OnOk result (nodes.new ≡ nodes.old ++ node (Basic goal) [] (Some Category.Det) span ∷ []) }
+{
+    nodes.put(Label {
+        root: Root::Basic(goal),
+        outputs: Sequence::new(alloc),
+        category: Some(Category::Det),
+        span,
+    })
 }

@@ -1,15 +1,14 @@
 //! What is to be done to split goals, so that they are gone through without recursion.
-ghost use Rattle.std.specs.Prelude.{◌≡◌};
-ghost use Rattle.merc_par_split.specs.Split.{may_fail};
+ghost use Rattle.std.specs.Prelude.{◌≡◌, [], ◌∷◌, ◌++◌, ◌+◌, length, IfOk, OnOk, MatchOption};
+ghost use Rattle.merc_par_split.specs.declared.tasks.Task.{Task};
+ghost use Rattle.merc_par_split.specs.Tasks.{passing, relabelled, wraps};
+ghost use Rattle.merc_graded_tree.specs.Nodes.{span_of};
 
-use crate::conjuncts::place_conjuncts;
-use crate::members::{place_alone, place_arms, place_in_turn};
-use crate::occurrences::Occurrences;
 use crate::rights::{Awaited, Right};
-use merc_base::{Category, NoMemory, Sequence, Span};
-use merc_goal_tree::{Var, Vars};
-use merc_graded_tree::{BasicGoal, Label, NodeRef, NodeView, Nodes, Root, Running, Site};
+use merc_base::{NoMemory, Sequence, Span};
+use merc_graded_tree::{Label, NodeRef, Root, Running};
 use std::alloc::Global;
+use std::marker::Model;
 
 /// A goal of a conjunct, with its rights.
 #[derive(Drop)]
@@ -18,290 +17,146 @@ pub(crate) struct Placing<'a> {
     /// The index of its first part among those of the whole goal.
     pub(crate) first: usize,
     /// Each for a variable that the goal uses.
-    pub(crate) waits: Vec<Awaited>,
+    pub(crate) waits: Sequence<Awaited>,
     /// Each for a variable that the goal binds.
-    pub(crate) signals: Vec<Right>,
+    pub(crate) signals: Sequence<Right>,
 }
 
-/// One thing to do. The last of a list of tasks comes first.
+/// One thing to do.
 #[derive(Drop)]
 pub(crate) enum Task<'a> {
     /// To put the goal's split tree behind the others.
     Place(Placing<'a>),
-    /// To put a wait for the variable, or a signal, behind the others.
-    Wait(Right, Span),
-    Signal(Right, Span),
-    /// To make the last goals, as many as the goal joins, that goal, with this site if they run side by side.
-    Close(NodeRef<'a>, Option<Site>),
-    /// To make the last so many goals one conjunction in the place of the goal.
-    Wrap(NodeRef<'a>, usize),
+    /// The same, where the signals go into the goal.
+    Enter(Placing<'a>),
+    /// To put waits behind the others.
+    Waits(Sequence<Right>, Span),
+    /// To put signals behind the others.
+    Signals(Sequence<Right>, Span),
+    /// To make the last goals, as many as the root says, one goal that has this label.
+    Close(Label),
 }
 
-impl<'a> Task<'a> {
-    /// A goal without rights.
-    pub(crate) fn alone(alloc: Global, goal: NodeRef<'a>, first: usize) -> Task<'a> {
-        Task::Place(Placing {
-            goal,
-            first,
-            waits: Vec::new(alloc),
-            signals: Vec::new(alloc),
-        })
+/// Tasks in the order in which they are to be done.
+#[derive(Drop)]
+pub(crate) struct Tasks<'a> {
+    // the last comes first
+    stack: Vec<Task<'a>>,
+}
+
+impl<'a> Model for Tasks<'a> {
+    ghost use Rattle.std.specs.Prelude.{List, reverse};
+    ghost use Rattle.merc_par_split.specs.declared.tasks.Task.{Task};
+
+    ghost Value = { List Task };
+
+    ghost use Rattle.std.specs.Coded.{codes};
+    ghost use Rattle.merc_graded_tree.specs.LabelCode.{node_code};
+
+    ghost coded = { Prim.hlevel (codes, node_code) };
+
+    ghost view = { λ t. reverse t.stack.items };
+}
+
+impl<'a> Tasks<'a> {
+    /// No tasks. It takes no memory.
+    pub(crate) fn new(alloc: Global) -> Tasks<'a>
+        ensures { result ≡ [] }
+    {
+        Tasks {
+            stack: Vec::new(alloc),
+        }
+    }
+
+    /// Puts a task before the others.
+    ///
+    /// # Errors
+    ///
+    /// `NoMemory` where memory was refused.
+    pub(crate) fn push(&mut self, task: Task<'a>) -> Result<(), NoMemory>
+        ensures { OnOk result (self.new ≡ task.entry ∷ self.old) }
+    {
+        self.stack.push(task)?;
+        Ok(())
+    }
+
+    /// Takes the first task.
+    pub(crate) fn pop(&mut self) -> Option<Task<'a>>
+        ensures { MatchOption result (self.old ≡ []) (λ task. self.old ≡ task ∷ self.new) }
+    {
+        self.stack.pop()
     }
 }
 
-/// Does one task. It may leave others to be done.
+/// The label of a goal with this root.
 ///
 /// # Errors
 ///
 /// `NoMemory` where memory was refused.
-pub(crate) fn perform<'a>(
-    alloc: Global,
-    occurrences: &Occurrences,
-    task: Task<'a>,
-    next: &mut usize,
-    tasks: &mut Vec<Task<'a>>,
-    nodes: &mut Nodes,
-) -> Result<(), NoMemory> {
-    match task {
-        Task::Place(placing) => place(alloc, occurrences, placing, next, tasks, nodes),
-        Task::Wait(right, span) => {
-            put_basic(alloc, BasicGoal::Wait(right.variable, right.conjunct), span, nodes)
-        }
-        Task::Signal(right, span) => {
-            put_basic(alloc, BasicGoal::Signal(right.variable, right.conjunct), span, nodes)
-        }
-        Task::Close(goal, site) => nodes.put(closing_label(alloc, &goal, site)?),
-        Task::Wrap(goal, count) => nodes.put(wrapping_label(alloc, &goal, count)?),
-    }
-}
-
-// A goal whose category is not known may fail.
-fn may_fail(category: Option<Category>) -> bool
-    ensures { result ≡ may_fail category }
+pub(crate) fn relabelled(alloc: Global, goal: &NodeRef<'_>, root: Root) -> Result<Label, NoMemory>
+    ensures { IfOk result (λ label. label ≡ relabelled goal.now root) }
 {
-    match category {
-        Some(category) => category.can_fail(),
-        None => true,
-    }
-}
-
-// Signals go into goals that cannot fail.
-fn place<'a>(
-    alloc: Global,
-    occurrences: &Occurrences,
-    placing: Placing<'a>,
-    next: &mut usize,
-    tasks: &mut Vec<Task<'a>>,
-    nodes: &mut Nodes,
-) -> Result<(), NoMemory> {
-    if !may_fail(placing.goal.category()) {
-        return place_goal(alloc, occurrences, placing, next, tasks, nodes);
-    }
-    leave_around(&placing.goal, 0, &placing.signals, tasks)?;
-    let inside = Placing {
-        goal: placing.goal,
-        first: placing.first,
-        waits: placing.waits,
-        signals: Vec::new(alloc),
-    };
-    place_goal(alloc, occurrences, inside, next, tasks, nodes)
-}
-
-fn place_goal<'a>(
-    alloc: Global,
-    occurrences: &Occurrences,
-    placing: Placing<'a>,
-    next: &mut usize,
-    tasks: &mut Vec<Task<'a>>,
-    nodes: &mut Nodes,
-) -> Result<(), NoMemory> {
-    let goal = placing.goal.copy();
-    match goal.view() {
-        NodeView::Basic(_) => close_around(&placing, tasks, nodes, alloc),
-        NodeView::Conjunction(Running::Sequential, goals) => {
-            tasks.push(Task::Close(goal, None))?;
-            place_in_turn(alloc, occurrences, goals, placing, tasks)
-        }
-        NodeView::Conjunction(Running::Parallel(_), goals) => {
-            place_conjuncts(alloc, occurrences, goals, placing, take_site(next)?, tasks, nodes)
-        }
-        NodeView::Disjunction(goals) => {
-            close_around(&placing, tasks, nodes, alloc)?;
-            place_alone(alloc, goals, past_inner(&placing), tasks)
-        }
-        NodeView::Switch(variable, _, arms) => {
-            let inner = keep_waits(alloc, placing, tasks, nodes, |other| other == variable)?;
-            let past = past_inner(&inner);
-            place_arms(alloc, occurrences, arms, past, &inner, tasks)
-        }
-        NodeView::Conditional(condition, then_part, else_part) => {
-            let start = placing.first;
-            let behind = start + condition.part_count();
-            let inner = keep_waits(alloc, placing, tasks, nodes, |other| {
-                occurrences.is_between(other, start, behind)
-            })?;
-            crate::members::place_parts(alloc, occurrences, behind, then_part, else_part, &inner, tasks)?;
-            tasks.push(Task::alone(alloc, condition, start))?;
-            Ok(())
-        }
-        NodeView::Negation(inner) => {
-            close_around(&placing, tasks, nodes, alloc)?;
-            tasks.push(Task::alone(alloc, inner, placing.first))?;
-            Ok(())
-        }
-        NodeView::Quantified(_, inner) => {
-            tasks.push(Task::Close(goal, None))?;
-            tasks.push(Task::Place(Placing { goal: inner, ..placing }))?;
-            Ok(())
-        }
-    }
-}
-
-// The index behind the parts of the goals that a goal joins.
-pub(crate) fn past_inner(placing: &Placing<'_>) -> usize {
-    placing.first + placing.goal.part_count() - 1
-}
-
-// The next number of a site.
-fn take_site(next: &mut usize) -> Result<Site, NoMemory> {
-    let number = *next;
-    match number.checked_add(1) {
-        Some(after) => *next = after,
-        // so many goals need more memory than there is
-        None => return Err(NoMemory),
-    }
-    Ok(Site { number })
-}
-
-// The goal stands behind its waits and before its signals. It is to be closed when what it joins has been put.
-fn close_around<'a>(
-    placing: &Placing<'a>,
-    tasks: &mut Vec<Task<'a>>,
-    nodes: &mut Nodes,
-    alloc: Global,
-) -> Result<(), NoMemory> {
-    leave_around(&placing.goal, placing.waits.len(), &placing.signals, tasks)?;
-    put_waits(alloc, &placing.waits, placing.goal.span(), nodes)?;
-    tasks.push(Task::Close(placing.goal.copy(), None))?;
-    Ok(())
-}
-
-// The waits for such variables stand before the goal; the others are left to the goals that it joins.
-fn keep_waits<'a, F: Fn(Var) -> bool>(
-    alloc: Global,
-    placing: Placing<'a>,
-    tasks: &mut Vec<Task<'a>>,
-    nodes: &mut Nodes,
-    is_kept: F,
-) -> Result<Placing<'a>, NoMemory> {
-    let mut before = Vec::new(alloc);
-    let mut inside = Vec::new(alloc);
-    for wait in &placing.waits {
-        if is_kept(wait.right.variable) {
-            before.push(*wait)?;
-        } else {
-            inside.push(*wait)?;
-        }
-    }
-    leave_around(&placing.goal, before.len(), &[], tasks)?;
-    put_waits(alloc, &before, placing.goal.span(), nodes)?;
-    tasks.push(Task::Close(placing.goal.copy(), None))?;
-    Ok(Placing { waits: inside, ..placing })
-}
-
-/// Leaves the signals behind a goal, and the conjunction that it becomes with so many waits before it and these.
-pub(crate) fn leave_around<'a>(
-    goal: &NodeRef<'a>,
-    waits: usize,
-    signals: &[Right],
-    tasks: &mut Vec<Task<'a>>,
-) -> Result<(), NoMemory> {
-    if waits + signals.len() == 0 {
-        return Ok(());
-    }
-    tasks.push(Task::Wrap(goal.copy(), waits + 1 + signals.len()))?;
-    for right in signals.iter().rev() {
-        tasks.push(Task::Signal(*right, goal.span()))?;
-    }
-    Ok(())
-}
-
-/// Leaves these waits behind a goal, and the conjunction that it becomes with so many waits before it and these.
-pub(crate) fn leave_ahead<'a>(
-    goal: &NodeRef<'a>,
-    before: usize,
-    behind: &[Right],
-    tasks: &mut Vec<Task<'a>>,
-) -> Result<(), NoMemory> {
-    if before + behind.len() == 0 {
-        return Ok(());
-    }
-    tasks.push(Task::Wrap(goal.copy(), before + 1 + behind.len()))?;
-    for right in behind.iter().rev() {
-        tasks.push(Task::Wait(*right, goal.span()))?;
-    }
-    Ok(())
-}
-
-/// Puts waits behind the others.
-pub(crate) fn put_waits(
-    alloc: Global,
-    waits: &[Awaited],
-    span: Span,
-    nodes: &mut Nodes,
-) -> Result<(), NoMemory> {
-    for wait in waits {
-        let goal = BasicGoal::Wait(wait.right.variable, wait.right.conjunct);
-        put_basic(alloc, goal, span, nodes)?;
-    }
-    Ok(())
-}
-
-// Puts a goal that is det, without outputs.
-fn put_basic(
-    alloc: Global,
-    goal: BasicGoal,
-    span: Span,
-    nodes: &mut Nodes,
-) -> Result<(), NoMemory> {
-    nodes.put(Label {
-        root: Root::Basic(goal),
-        outputs: Sequence::new(alloc),
-        category: Some(Category::Det),
-        span,
-    })
-}
-
-// The label of a goal, with this site if it is a conjunction that runs side by side.
-fn closing_label(
-    alloc: Global,
-    goal: &NodeRef<'_>,
-    site: Option<Site>,
-) -> Result<Label, NoMemory> {
-    let Some(label) = goal.part(goal.part_count() - 1) else {
-        return Err(NoMemory);
-    };
-    let root = match &label.root {
-        Root::Conjunction(Running::Parallel(_), count) => {
-            Root::Conjunction(Running::Parallel(site), *count)
-        }
-        root => root.try_clone(alloc)?,
-    };
     Ok(Label {
         root,
-        outputs: label.outputs.try_clone(alloc)?,
-        category: label.category,
-        span: label.span,
-    })
-}
-
-// The label of the conjunction of so many goals in the place of a goal.
-fn wrapping_label(alloc: Global, goal: &NodeRef<'_>, count: usize) -> Result<Label, NoMemory> {
-    let outputs: Vars = goal.outputs().try_clone(alloc)?;
-    Ok(Label {
-        root: Root::Conjunction(Running::Sequential, count),
-        outputs,
+        outputs: goal.outputs().try_clone(alloc)?,
         category: goal.category(),
         span: goal.span(),
     })
+}
+
+/// Leaves to make the last goals one conjunction in the place of a goal, which is the goal and so many others. It is the goal
+/// where there are none.
+///
+/// # Errors
+///
+/// `NoMemory` where memory was refused.
+pub(crate) fn leave_wrap<'a>(
+    alloc: Global,
+    goal: &NodeRef<'a>,
+    others: usize,
+    tasks: &mut Tasks<'a>,
+) -> Result<(), NoMemory>
+    ensures { OnOk result (tasks.new ≡ wraps others goal.now ++ tasks.old) }
+{
+    if others == 0 {
+        return Ok(());
+    }
+    let root = Root::Conjunction(Running::Sequential, sum(others, 1)?);
+    let label = relabelled(alloc, goal, root)?;
+    tasks.push(Task::Close(label))
+}
+
+/// Leaves rights to wait behind a goal.
+///
+/// # Errors
+///
+/// `NoMemory` where memory was refused.
+pub(crate) fn leave_passing<'a>(
+    alloc: Global,
+    goal: &NodeRef<'a>,
+    rights: Sequence<Right>,
+    tasks: &mut Tasks<'a>,
+) -> Result<(), NoMemory>
+    ensures { OnOk result (tasks.new ≡ passing goal.now rights ++ tasks.old) }
+{
+    let count = rights.as_slice().len();
+    if count == 0 {
+        return Ok(());
+    }
+    leave_wrap(alloc, goal, count, tasks)?;
+    tasks.push(Task::Waits(rights, goal.span()))
+}
+
+/// Two numbers together.
+///
+/// # Errors
+///
+/// `NoMemory` where so many things need more memory than there is.
+pub(crate) fn sum(one: usize, other: usize) -> Result<usize, NoMemory>
+    ensures { IfOk result (λ both. both ≡ one + other) }
+{
+    match one.checked_add(other) {
+        Some(both) => Ok(both),
+        None => Err(NoMemory),
+    }
 }
