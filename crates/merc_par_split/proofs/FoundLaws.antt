@@ -5,18 +5,19 @@ use Rattle.std.specs.Option.{is_some}
 use Rattle.std.proofs.Common.{◌∙◌, ap, sym, subst, arith}
 use Rattle.std.proofs.lemmas.Bool.{eqb-true}
 use Rattle.std.proofs.lemmas.Bool.Decides.{nat_tests}
-use Rattle.std.proofs.lemmas.List.{append-nil}
+use Rattle.std.proofs.lemmas.List.{append-nil, append_assoc, map-append, take_all, take_more}
 use Rattle.merc_graded_tree.specs.Nodes.{Node, outputs_of}
 use Rattle.merc_graded_tree.specs.Variables.{among}
-use Rattle.merc_par_split.specs.Members.{uses_it, users_behind, consumers_behind, cells_at, waits_at, signals_at, moves_if, moves_at, Adds}
+use Rattle.merc_par_split.specs.Members.{uses_it, users_behind, consumers_behind, cells_at, waits_at, signals_at, moves_if, moves_at, move_of, Adds, AddsVariable, AddsVariables}
 use Rattle.merc_par_split.specs.Outcomes.{fresh}
 use Rattle.merc_par_split.specs.Ranks.{Rise}
 use Rattle.merc_par_split.specs.Rights.{Right, right_to, is_sooner, with_rights}
 use Rattle.merc_par_split.specs.Rows.{row_of, numbers_from, Tells}
+use Rattle.merc_par_split.specs.declared.conjuncts.Found.{Found}
 use Rattle.merc_par_split.specs.declared.rights.Awaited.{Awaited}
 use Rattle.merc_par_split.specs.declared.sites.CellInfo.{CellInfo}
 use Rattle.merc_par_split.specs.declared.sites.Moved.{Moved}
-use Rattle.merc_par_split.proofs.Indexes.{next_is}
+use Rattle.merc_par_split.proofs.Indexes.{next_is, flat_more}
 
 -- the rights to those who wait are in order
 
@@ -117,3 +118,41 @@ moves_put moved group producer variable child old new next row some put =
     let e : child ≡ suc producer = omega (arith, next) in
     put ∙ ap (λ n. old ++ record { variable = variable; child = n; signal = true } ∷ []) e
     ∙ ap (λ l. old ++ l) (sym (one_moves group producer variable some) ∙ ap (λ l. moves_if l producer variable) row)
+
+-- one variable more of those that a conjunct binds, and all
+
+module _ (goals : List Node) (list : List ℕ) (moved : List (ℕ × Right)) (producer : ℕ) (items : List ℕ) (index : ℕ) (start old : Found) where
+  pub variable_more : (item : ℕ) (new : Found) → item ≡ slice_index_or items index item → index < length items → AddsVariables goals list moved producer (take index items) start old
+      → AddsVariable goals list moved producer item old new → AddsVariables goals list moved producer (take (index + 1) items) start new
+  variable_more item new is less so put = record {
+    more_cells = flat_more (cells_at goals list producer) items index item start.cells.items old.cells.items new.cells.items is less so.more_cells put.more_cells;
+    more_moves = flat_more (moves_at moved producer) items index item start.moves.items old.moves.items new.moves.items is less so.more_moves put.more_moves;
+    more_waits = flat_more (waits_at goals producer) items index item start.waits.items old.waits.items new.waits.items is less so.more_waits put.more_waits;
+    more_signals = flat_more (signals_at goals list moved producer) items index item start.signals.items old.signals.items new.signals.items is less so.more_signals put.more_signals;
+  }
+
+  pub all_variables : (all : List ℕ) → items ≡ all → length items ≤ index → AddsVariables goals list moved producer (take index items) start old → AddsVariables goals list moved producer all start old
+  all_variables all are least so = subst (λ l. AddsVariables goals list moved producer l start old) (take_all index items least ∙ are) so
+
+-- one right more of those that move in, and all
+
+one_more : {X : Type 0} (items : List X) (index : ℕ) (item : X) → item ≡ slice_index_or items index item → index < length items → take (index + 1) items ≡ take index items ++ item ∷ []
+one_more items index item is less = take_more items index item less ∙ ap (λ x. take index items ++ x ∷ []) (sym is)
+
+pub waits_more : {X : Type 0} (items : List X) (index : ℕ) (item : X) (start old new : List X) → item ≡ slice_index_or items index item → index < length items
+    → old ≡ start ++ take index items → new ≡ old ++ item ∷ [] → new ≡ start ++ take (index + 1) items
+waits_more items index item start old new is less so put =
+    put ∙ ap (λ l. l ++ item ∷ []) so ∙ append_assoc start (take index items) (item ∷ []) ∙ ap (λ l. start ++ l) (sym (one_more items index item is less))
+
+pub moves_more : (items : List (ℕ × Awaited)) (index : ℕ) (item : ℕ × Awaited) (child : ℕ) (start old new : List Moved) → item ≡ slice_index_or items index item → index < length items
+    → child ≡ item.0 + 1 → old ≡ start ++ map move_of (take index items) → new ≡ old ++ record { variable = item.1.right.variable; child = child; signal = false } ∷ []
+    → new ≡ start ++ map move_of (take (index + 1) items)
+moves_more items index item child start old new is less next so put =
+    let e : child ≡ suc item.0 = omega (arith, next) in
+    put ∙ ap (λ n. old ++ record { variable = item.1.right.variable; child = n; signal = false } ∷ []) e
+    ∙ ap (λ l. l ++ move_of item ∷ []) so ∙ append_assoc start (map move_of (take index items)) (move_of item ∷ [])
+    ∙ ap (λ l. start ++ l) (sym (map-append move_of (take index items) (item ∷ [])) ∙ ap (map move_of) (sym (one_more items index item is less)))
+
+pub all_moved : (items all : List (ℕ × Awaited)) (index : ℕ) (start old : Found) → items ≡ all → length items ≤ index → Adds start old [] (map move_of (take index items)) (take index items) []
+    → Adds start old [] (map move_of all) all []
+all_moved items all index start old are least so = subst (λ l. Adds start old [] (map move_of l) l []) (take_all index items least ∙ are) so
