@@ -5,19 +5,19 @@ use Rattle.std.specs.Option.{is_some}
 use Rattle.std.proofs.Common.{◌∙◌, ap, sym, subst, arith}
 use Rattle.std.proofs.lemmas.Bool.{eqb-true}
 use Rattle.std.proofs.lemmas.Bool.Decides.{nat_tests}
-use Rattle.std.proofs.lemmas.List.{append-nil, append_assoc, map-append, take_all, take_more}
+use Rattle.std.proofs.lemmas.List.{append-nil, append_assoc, map-append, length-take-le, take_all, take_more}
 use Rattle.merc_graded_tree.specs.Nodes.{Node, outputs_of}
 use Rattle.merc_graded_tree.specs.Variables.{among}
-use Rattle.merc_par_split.specs.Members.{uses_it, users_behind, consumers_behind, cells_at, waits_at, signals_at, moves_if, moves_at, move_of, Adds, AddsVariable, AddsVariables}
+use Rattle.merc_par_split.specs.Members.{uses_it, users_behind, consumers_behind, cells_at, waits_at, signals_at, moves_if, moves_at, move_of, Adds, AddsVariable, AddsVariables, Finds}
 use Rattle.merc_par_split.specs.Outcomes.{fresh}
 use Rattle.merc_par_split.specs.Ranks.{Rise}
 use Rattle.merc_par_split.specs.Rights.{Right, right_to, is_sooner, with_rights}
-use Rattle.merc_par_split.specs.Rows.{row_of, numbers_from, Tells}
+use Rattle.merc_par_split.specs.Rows.{row_of, each_from, numbers_from, Tells}
 use Rattle.merc_par_split.specs.declared.conjuncts.Found.{Found}
 use Rattle.merc_par_split.specs.declared.rights.Awaited.{Awaited}
 use Rattle.merc_par_split.specs.declared.sites.CellInfo.{CellInfo}
 use Rattle.merc_par_split.specs.declared.sites.Moved.{Moved}
-use Rattle.merc_par_split.proofs.Indexes.{next_is, flat_more}
+use Rattle.merc_par_split.proofs.Indexes.{next_is, flat_more, each-push}
 
 -- the rights to those who wait are in order
 
@@ -156,3 +156,61 @@ moves_more items index item child start old new is less next so put =
 pub all_moved : (items all : List (ℕ × Awaited)) (index : ℕ) (start old : Found) → items ≡ all → length items ≤ index → Adds start old [] (map move_of (take index items)) (take index items) []
     → Adds start old [] (map move_of all) all []
 all_moved items all index start old are least so = subst (λ l. Adds start old [] (map move_of l) l []) (take_all index items least ∙ are) so
+
+-- one conjunct more of those that bind variables, and all
+
+some_of : {X : Type 0} (items : List X) → 0 < length items → X
+some_of [] some = absurd (omega (arith, some))
+some_of (first ∷ rest) some = first
+
+each_more : {X Y : Type 0} (f : ℕ → X → List Y) (items : List X) (number : ℕ) (d : X) (old new : List Y) → number < length items → old ≡ each_from f 0 (take number items)
+    → new ≡ old ++ f number (slice_index_or items number d) → new ≡ each_from f 0 (take (number + 1) items)
+each_more f items number d old new less so put =
+    let count : length (take number items) ≡ number = length-take-le number items (omega (arith, less)) in
+    let e : number ≡ 0 + length (take number items) = omega (arith, count) in
+    put ∙ ap (λ l. l ++ f number (slice_index_or items number d)) so
+    ∙ ap (λ n. each_from f 0 (take number items) ++ f n (slice_index_or items number d)) e
+    ∙ sym (each-push f 0 (take number items) (slice_index_or items number d))
+    ∙ ap (each_from f 0) (sym (take_more items number d less))
+
+module _ (goals : List Node) (list : List ℕ) (moved : List (ℕ × Right)) where
+  abbrev all_cells : ℕ → Node → List CellInfo
+  all_cells n goal = flat_map (cells_at goals list n) (outputs_of goal)
+
+  abbrev all_moves : ℕ → Node → List Moved
+  all_moves n goal = flat_map (moves_at moved n) (outputs_of goal)
+
+  abbrev all_waits : ℕ → Node → List (ℕ × Awaited)
+  all_waits n goal = flat_map (waits_at goals n) (outputs_of goal)
+
+  abbrev all_signals : ℕ → Node → List (ℕ × Right)
+  all_signals n goal = flat_map (signals_at goals list moved n) (outputs_of goal)
+
+  pub record FoundUpTo (number : ℕ) (found : Found) : Type 0 where
+    pub are_cells : found.cells.items ≡ each_from (λ n goal. flat_map (cells_at goals list n) (outputs_of goal)) 0 (take number goals)
+    pub are_moves : found.moves.items ≡ each_from (λ n goal. flat_map (moves_at moved n) (outputs_of goal)) 0 (take number goals)
+    pub are_waits : found.waits.items ≡ each_from (λ n goal. flat_map (waits_at goals n) (outputs_of goal)) 0 (take number goals)
+    pub are_signals : found.signals.items ≡ each_from (λ n goal. flat_map (signals_at goals list moved n) (outputs_of goal)) 0 (take number goals)
+
+  pub producer_more : (number : ℕ) (old new : Found) → number < length goals → FoundUpTo number old
+      → ((d : Node) → AddsVariables goals list moved number (outputs_of (slice_index_or goals number d)) old new) → FoundUpTo (number + 1) new
+  producer_more number old new less so puts =
+      let d = some_of goals (omega (arith, less)) in
+      let put = puts d in record {
+        are_cells = each_more all_cells goals number d old.cells.items new.cells.items less so.are_cells put.more_cells;
+        are_moves = each_more all_moves goals number d old.moves.items new.moves.items less so.are_moves put.more_moves;
+        are_waits = each_more all_waits goals number d old.waits.items new.waits.items less so.are_waits put.more_waits;
+        are_signals = each_more all_signals goals number d old.signals.items new.signals.items less so.are_signals put.more_signals;
+      }
+
+  pub all_found : (signals : List Right) (number : ℕ) (found : Found) → ((variable : ℕ) → row_of variable moved ≡ row_of variable (map (λ right. (right.variable, right)) signals)) → length goals ≤ number
+      → FoundUpTo number found → Finds goals list signals found
+  all_found signals number found by least so =
+      let all = take_all number goals least in record {
+        moved = moved;
+        by_variable = by;
+        are_cells = so.are_cells ∙ ap (each_from all_cells 0) all;
+        are_moves = so.are_moves ∙ ap (each_from all_moves 0) all;
+        are_waits = so.are_waits ∙ ap (each_from all_waits 0) all;
+        are_signals = so.are_signals ∙ ap (each_from all_signals 0) all;
+      }
