@@ -1,5 +1,4 @@
-use Rattle.std.proofs.Common.{◌≡◌, ◌∙◌, ap, sym, subst, arith, ◌+◌, [], ◌∷◌, ℕ, length, map}
-use Rattle.merc_par_split.specs.Rows.{row_of, Tells}
+use Rattle.std.proofs.Common.{sym, subst, arith, ◌+◌}
 use Rattle.merc_par_split.proofs.FoundLaws.{FoundUpTo, producer_more, all_found}
 use Rattle.merc_par_split.proofs.conjuncts.found_at.Goals as goal
 

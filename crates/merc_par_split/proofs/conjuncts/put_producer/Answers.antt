@@ -1,4 +1,4 @@
-use Rattle.std.proofs.Common.{◌≡◌, ◌∙◌, ap, sym, arith, slice_index_or}
+use Rattle.std.proofs.Common.{◌∙◌, ap, arith, slice_index_or}
 use Rattle.std.proofs.lemmas.List.{get_or_default}
 use Rattle.merc_graded_tree.specs.Nodes.{outputs_of}
 use Rattle.merc_par_split.proofs.FoundLaws.{variable_more, all_variables}
