@@ -10,3 +10,4 @@ pub mod Numbering
 pub mod Agreeing
 pub mod PlannedCounts
 mod MoveLaws
+pub mod FoundLaws
