@@ -9,3 +9,4 @@ pub mod Counting
 pub mod Numbering
 pub mod Agreeing
 mod MoveLaws
+pub mod Leaving
