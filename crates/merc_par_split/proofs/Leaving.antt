@@ -1,6 +1,6 @@
 -- Tasks that are left for goals which a goal joins.
-use Rattle.std.specs.Prelude.{◌≡◌, ◌==◌, ◌+◌, ℕ, suc, List, [], ◌∷◌, ◌++◌, length, take, slice_index_or, Result, Ok, Err, OnOk, refl}
-use Rattle.std.specs.List.{flat_map}
+use Rattle.std.specs.Prelude.{◌≡◌, ◌+◌, ℕ, suc, List, [], ◌∷◌, ◌++◌, length, map, take, slice_index_or, Result, Ok, Err, OnOk, refl}
+use Rattle.std.specs.List.{filter, flat_map}
 use Rattle.std.proofs.Common.{◌∙◌, ap, sym, subst, arith}
 use Rattle.std.proofs.Math.Seq.{take-append_seam}
 use Rattle.std.proofs.lemmas.List.{append_assoc, append-nil, length-append}
@@ -9,16 +9,18 @@ use Rattle.merc_graded_tree.specs.declared.entries.Label.{Label}
 use Rattle.merc_graded_tree.specs.declared.entries.Root.{Root}
 use Rattle.merc_graded_tree.specs.declared.entries.Root.TheVariants.{Conjunction, Conditional}
 use Rattle.merc_graded_tree.specs.declared.entries.Running.TheVariants.{Sequential}
-use Rattle.merc_graded_tree.specs.Nodes.{Node, span_of}
+use Rattle.merc_graded_tree.specs.Nodes.{Node, outputs_of, span_of, nodes_of}
 use Rattle.merc_graded_tree.specs.Labels.{labels_of, all_labels}
 use Rattle.merc_graded_tree.specs.Variables.{in_node}
 use Rattle.merc_par_split.specs.Rights.{Right}
 use Rattle.merc_par_split.specs.Rows.{row_of}
-use Rattle.merc_par_split.specs.Members.{turn_wait, turn_signal, wait_shares, signal_shares, pass_shares}
-use Rattle.merc_par_split.specs.Outcomes.{rights_of, those_waits, others}
-use Rattle.merc_par_split.specs.Constructs.{turn_tasks, arm_tasks, conditional_tasks}
+use Rattle.merc_par_split.specs.Members.{turn_wait, turn_signal, wait_shares, signal_shares, pass_shares, move_of, Finds, Adds}
+use Rattle.merc_par_split.specs.Outcomes.{rights_of, those_waits, others, moves, stays}
+use Rattle.merc_par_split.specs.Constructs.{turn_tasks, arm_tasks, conditional_tasks, site_tasks, LeavesConjuncts}
 use Rattle.merc_par_split.specs.Tasks.{Lies, Share, starts_of, shares_of, relabelled, passing, member_tasks, closed}
+use Rattle.merc_par_split.specs.declared.conjuncts.Found.{Found}
 use Rattle.merc_par_split.specs.declared.rights.Awaited.{Awaited}
+use Rattle.merc_par_split.specs.declared.sites.SiteInfo.{SiteInfo}
 use Rattle.merc_par_split.specs.declared.tasks.Placing.{Placing}
 use Rattle.merc_par_split.specs.declared.tasks.Task.{Task}
 use Rattle.merc_par_split.specs.declared.tasks.Task.TheVariants.{Place, Waits, Signals, Close}
@@ -164,3 +166,44 @@ conditional_left placing condition then_part else_part past size count before no
     e ∙ ap (λ l. Waits l at' ∷ t3) b ∙ ap (λ w. Waits own w ∷ t3) v'
     ∙ ap (λ t. Waits own (span_of placing.goal) ∷ t) (e3 ∙ ap (λ t. t ∷ t2) q
     ∙ ap (λ t. placed condition placing.first [] [] ∷ t) (e2 ∙ ap (λ l. l ++ t1) arms_are ∙ ap (λ l. inner ++ l) ends ∙ sym (append_assoc inner end tasks)))
+
+-- side by side
+
+abbrev site_of : ℕ → Found → SiteInfo
+site_of children found = record { children = children; cells = found.cells.items; moves = found.moves.items }
+
+abbrev MovedIn : Found → Found → List Node → List Awaited → Type 0
+MovedIn found moved goals inside = Adds found moved [] (map move_of (flat_map (wait_shares goals) inside)) (flat_map (wait_shares goals) inside) []
+
+pub conjuncts_left : (placing : Placing) (goals listed : List Node) (start children number count : ℕ) (own inside : List Awaited) (outputs : List ℕ) (binds before : List Right) (found moved : Found)
+    (at : Span) (sites sites' : List SiteInfo) (tasks t1 t2 now : List Task)
+    → listed ≡ goals → start ≡ placing.first → own ≡ placing.waits → outputs ≡ outputs_of placing.goal → binds ≡ placing.signals → at ≡ span_of placing.goal
+    → before ≡ rights_of (filter (stays (nodes_of listed)) own) → inside ≡ filter (moves (nodes_of listed)) own
+    → Finds listed outputs binds found → Adds found moved [] (map move_of (flat_map (wait_shares listed) inside)) (flat_map (wait_shares listed) inside) []
+    → children ≡ length listed → number ≡ length sites → count ≡ length before
+    → sites' ≡ sites ++ record { children = length listed; cells = moved.cells.items; moves = moved.moves.items } ∷ []
+    → t1 ≡ site_tasks placing.goal children number count ++ tasks → t2 ≡ member_tasks start (shares_of 0 listed moved.waits.items moved.signals.items []) ++ t1 → now ≡ Waits before at ∷ t2
+    → LeavesConjuncts placing goals sites sites' tasks now
+conjuncts_left placing goals listed start children number count own inside outputs binds before found moved at sites sites' tasks t1 t2 now g f w o b v be i finds adds k n c told e1 e2 e =
+    let stay = rights_of (filter (stays (nodes_of goals)) placing.waits) in
+    let stay_is = be ∙ ap (λ l. rights_of (filter (stays (nodes_of l)) own)) g ∙ ap (λ l. rights_of (filter (stays (nodes_of goals)) l)) w in
+    let inside_is = i ∙ ap (λ l. filter (moves (nodes_of l)) own) g ∙ ap (λ l. filter (moves (nodes_of goals)) l) w in
+    let members = member_tasks placing.first (shares_of 0 goals moved.waits.items moved.signals.items []) in
+    let members_are : member_tasks start (shares_of 0 listed moved.waits.items moved.signals.items []) ≡ members =
+    ap (λ k. member_tasks k (shares_of 0 listed moved.waits.items moved.signals.items [])) f ∙ ap (λ l. member_tasks placing.first (shares_of 0 l moved.waits.items moved.signals.items [])) g in
+    let site_is : site_tasks placing.goal children number count ≡ site_tasks placing.goal (length goals) (length sites) (length stay) =
+    ap (λ k. site_tasks placing.goal k number count) (k ∙ ap length g) ∙ ap (λ k. site_tasks placing.goal (length goals) k count) n
+    ∙ ap (λ k. site_tasks placing.goal (length goals) (length sites) k) (c ∙ ap length stay_is) in
+    record {
+      found = found;
+      with_moved = moved;
+      finds =
+          subst (λ l. Finds l (outputs_of placing.goal) placing.signals found) g
+          (subst (λ l. Finds listed l placing.signals found) o (subst (λ l. Finds listed outputs l found) b finds));
+      adds = subst (λ l. MovedIn found moved goals l) inside_is (subst (λ l. MovedIn found moved l inside) g adds);
+      told = told ∙ ap (λ l. sites ++ site_of (length l) moved ∷ []) g;
+      left =
+          e ∙ ap (λ l. Waits l at ∷ t2) stay_is ∙ ap (λ s. Waits stay s ∷ t2) v
+          ∙ ap (λ t. Waits stay (span_of placing.goal) ∷ t)
+          (e2 ∙ ap (λ l. l ++ t1) members_are ∙ ap (λ l. members ++ l) (e1 ∙ ap (λ l. l ++ tasks) site_is));
+    }
