@@ -1,4 +1,4 @@
--- Tasks that are left for goals which a goal joins.
+-- Tasks that are left for the goals which a goal joins.
 use Rattle.std.specs.Prelude.{◌≡◌, ◌+◌, ℕ, suc, List, [], ◌∷◌, ◌++◌, length, map, take, slice_index_or, Result, Ok, Err, OnOk, refl}
 use Rattle.std.specs.List.{filter, flat_map}
 use Rattle.std.proofs.Common.{◌∙◌, ap, sym, subst, arith}
