@@ -11,3 +11,4 @@ pub mod Agreeing
 pub mod PlannedCounts
 mod MoveLaws
 pub mod FoundLaws
+pub mod Leaving
