@@ -8,3 +8,4 @@ pub mod RankLaws
 pub mod Counting
 pub mod Numbering
 pub mod Agreeing
+pub mod ShareLaws
