@@ -10,3 +10,4 @@ pub mod Numbering
 pub mod Agreeing
 pub mod ShareLaws
 pub mod EffortLaws
+pub mod ConstructLaws
