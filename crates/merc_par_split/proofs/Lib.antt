@@ -11,3 +11,4 @@ pub mod Agreeing
 pub mod ShareLaws
 pub mod EffortLaws
 pub mod ConstructLaws
+pub mod ConjunctLaws
