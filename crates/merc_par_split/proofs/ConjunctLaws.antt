@@ -33,29 +33,29 @@ pub flat-append : {A X : Type 0} (f : A → List X) (one other : List A) → fla
 flat-append f [] other = refl
 flat-append f (first ∷ rest) other = ap (λ r. f first ++ r) (flat-append f rest other) ∙ sym (append_assoc (f first) (flat_map f rest) (flat_map f other))
 
-row-each : {A X : Type 0} (number start : ℕ) (f : ℕ → A → List (ℕ × X)) (list : List A) → row_of number (each_from f start list) ≡ each_from (λ n a. row_of number (f n a)) start list
+pub row-each : {A X : Type 0} (number start : ℕ) (f : ℕ → A → List (ℕ × X)) (list : List A) → row_of number (each_from f start list) ≡ each_from (λ n a. row_of number (f n a)) start list
 row-each number start f [] = refl
 row-each number start f (first ∷ rest) = row-append number (f start first) (each_from f (suc start) rest) ∙ ap (λ r. row_of number (f start first) ++ r) (row-each number (suc start) f rest)
 
-each-append : {A X : Type 0} (f : ℕ → A → List X) (start : ℕ) (one other : List A) → each_from f start (one ++ other) ≡ each_from f start one ++ each_from f (start + length one) other
+pub each-append : {A X : Type 0} (f : ℕ → A → List X) (start : ℕ) (one other : List A) → each_from f start (one ++ other) ≡ each_from f start one ++ each_from f (start + length one) other
 each-append f start [] other = let e : start ≡ start + 0 = omega arith in ap (λ n. each_from f n other) e
 each-append f start (first ∷ rest) other =
     let e : suc start + length rest ≡ start + suc (length rest) = omega arith in
     ap (λ r. f start first ++ r) (each-append f (suc start) rest other ∙ ap (λ n. each_from f (suc start) rest ++ each_from f n other) e)
     ∙ sym (append_assoc (f start first) (each_from f (suc start) rest) (each_from f (start + suc (length rest)) other))
 
-each-before : {A X : Type 0} (f : ℕ → A → List X) (g : A → List X) (number : ℕ) (is : (n : ℕ) (a : A) → n < number → f n a ≡ g a) (start : ℕ) (list : List A)
+pub each-before : {A X : Type 0} (f : ℕ → A → List X) (g : A → List X) (number : ℕ) (is : (n : ℕ) (a : A) → n < number → f n a ≡ g a) (start : ℕ) (list : List A)
     → start + length list ≤ number → each_from f start list ≡ flat_map g list
 each-before f g number is start [] within = refl
 each-before f g number is start (first ∷ rest) within =
     ap (λ r. r ++ each_from f (suc start) rest) (is start first (omega (arith, within))) ∙ ap (λ r. g first ++ r) (each-before f g number is (suc start) rest (omega (arith, within)))
 
-each-behind : {A X : Type 0} (f : ℕ → A → List X) (number : ℕ) (is : (n : ℕ) (a : A) → number ≤ n → f n a ≡ []) (start : ℕ) (list : List A) → number ≤ start → each_from f start list ≡ []
+pub each-behind : {A X : Type 0} (f : ℕ → A → List X) (number : ℕ) (is : (n : ℕ) (a : A) → number ≤ n → f n a ≡ []) (start : ℕ) (list : List A) → number ≤ start → each_from f start list ≡ []
 each-behind f number is start [] past = refl
 each-behind f number is start (first ∷ rest) past =
     ap (λ r. r ++ each_from f (suc start) rest) (is start first past) ∙ each-behind f number is (suc start) rest (omega (arith, past))
 
-flat-none : {A X : Type 0} (f : A → List X) (none : (a : A) → f a ≡ []) (list : List A) → flat_map f list ≡ []
+pub flat-none : {A X : Type 0} (f : A → List X) (none : (a : A) → f a ≡ []) (list : List A) → flat_map f list ≡ []
 flat-none f none [] = refl
 flat-none f none (first ∷ rest) = ap (λ r. r ++ flat_map f rest) (none first) ∙ flat-none f none rest
 
@@ -94,7 +94,7 @@ module _ {Y : Type 0} (f : ℕ → Y) where
 
 -- conjuncts that use a variable
 
-users-from : (variable from number : ℕ) (goals : List Node) → from ≤ number → map suc (numbers_from (uses_it variable) from number goals) ≡ users (suc number) (nodes_of goals) variable
+pub users-from : (variable from number : ℕ) (goals : List Node) → from ≤ number → map suc (numbers_from (uses_it variable) from number goals) ≡ users (suc number) (nodes_of goals) variable
 users-from variable from number [] least = refl
 users-from variable from number (first ∷ rest) least =
     ap (λ b. map suc (if b && in_node first variable then number ∷ numbers_from (uses_it variable) from (suc number) rest else numbers_from (uses_it variable) from (suc number) rest)) low

@@ -12,3 +12,4 @@ pub mod ShareLaws
 pub mod EffortLaws
 pub mod ConstructLaws
 pub mod ConjunctLaws
+pub mod SiteLaws

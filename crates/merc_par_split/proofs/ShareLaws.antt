@@ -255,7 +255,7 @@ turn-signal-first first rest right = ap (λ o. turn_signal_at right o) (next-fir
 
 -- what comes of the goals
 
-outcome-same : (site : ℕ) (waits waits' : List Awaited) (signals signals' : List Right) (goal : Node) → waits ≡ waits' → signals ≡ signals' → outcome site waits signals goal ≡ outcome site waits' signals' goal
+pub outcome-same : (site : ℕ) (waits waits' : List Awaited) (signals signals' : List Right) (goal : Node) → waits ≡ waits' → signals ≡ signals' → outcome site waits signals goal ≡ outcome site waits' signals' goal
 outcome-same site waits waits' signals signals' goal same equal = ap (λ w. outcome site w signals goal) same ∙ ap (λ s. outcome site waits' s goal) equal
 
 -- the first of the rows
