@@ -13,3 +13,4 @@ pub mod EffortLaws
 pub mod ConstructLaws
 pub mod ConjunctLaws
 pub mod SiteLaws
+pub mod SideLaws
