@@ -14,3 +14,4 @@ pub mod ConstructLaws
 pub mod ConjunctLaws
 pub mod SiteLaws
 pub mod SideLaws
+pub mod PerformLaws
