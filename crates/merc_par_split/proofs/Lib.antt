@@ -12,3 +12,10 @@ pub mod PlannedCounts
 mod MoveLaws
 pub mod FoundLaws
 pub mod Leaving
+pub mod ShareLaws
+pub mod EffortLaws
+pub mod ConstructLaws
+pub mod ConjunctLaws
+pub mod SiteLaws
+pub mod SideLaws
+pub mod PerformLaws
