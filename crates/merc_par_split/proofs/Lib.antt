@@ -9,3 +9,4 @@ pub mod Counting
 pub mod Numbering
 pub mod Agreeing
 pub mod ShareLaws
+pub mod OutcomeLaws
