@@ -10,3 +10,4 @@ pub mod Numbering
 pub mod Agreeing
 pub mod ShareLaws
 pub mod OutcomeLaws
+pub mod PerformLaws
