@@ -187,12 +187,22 @@ close_step whole task label rest goals goals' sites is h =
     subst (λ t. Performs whole t rest (at_with goals sites) rest (at_with goals' sites)) (sym is) (close_performs whole label rest goals goals' sites h)
 
 -- What a goal without rights leads to is its split tree and its sites.
-pub all_performed : (whole : Node) (goals goals' : List Node) (before now : List SiteInfo)
-    → after_all [] (at_with goals' now) ≡ after_all (Place (record { goal = whole; first = 0; waits = []; signals = [] }) ∷ []) (at_with goals before)
+pub all_performed : (whole : Node) (tasks : List Task) (goals goals' : List Node) (before now : List SiteInfo) → tasks ≡ []
+    → after_all tasks (at_with goals' now) ≡ with_outcome (at_with goals before) (outcome (length before) [] [] whole)
     → (goals' ≡ goals ++ split (length before) whole ∷ []) × (now ≡ before ++ sites whole)
-all_performed whole goals goals' before now h =
-    let e = h ∙ ap (λ (p : Node × List SiteInfo). with_outcome (at_with goals before) p) (split_is (length before) whole) in
+all_performed whole tasks goals goals' before now none h =
+    let e = sym (ap (λ l. after_all l (at_with goals' now)) none) ∙ h ∙ ap (λ (p : Node × List SiteInfo). with_outcome (at_with goals before) p) (split_is (length before) whole) in
     (ap (λ (p : Progress). p.goals) e, ap (λ (p : Progress). p.sites) e)
 
-pub whole_lies : (whole : Node) → Lies (labels_of whole) 0 (labels_of whole)
-whole_lies whole = record { front = []; back = []; are = sym (append-nil (labels_of whole)); count = refl }
+-- the first task
+pub the_first : (tasks none : List Task) (task : Task) (goal whole : Node) → tasks ≡ task ∷ none → none ≡ []
+    → task ≡ Place (record { goal = goal; first = 0; waits = []; signals = [] }) → goal ≡ whole → tasks ≡ Place (record { goal = whole; first = 0; waits = []; signals = [] }) ∷ []
+the_first tasks none task goal whole h empty is same =
+    h ∙ ap (λ l. task ∷ l) empty ∙ ap (λ t. t ∷ []) is ∙ ap (λ g. Place (record { goal = g; first = 0; waits = []; signals = [] }) ∷ []) same
+
+pub first_lies : (whole : Node) (tasks : List Task) → tasks ≡ Place (record { goal = whole; first = 0; waits = []; signals = [] }) ∷ [] → AllLie whole tasks
+first_lies whole tasks is =
+    subst (λ l. AllLie whole l) (sym is) (record { front = []; back = []; are = sym (append-nil (labels_of whole)); count = refl }, tt)
+
+pub first_enough : (whole : Node) (tasks : List Task) (count : ℕ) → tasks ≡ Place (record { goal = whole; first = 0; waits = []; signals = [] }) ∷ [] → HaveEnough count tasks
+first_enough whole tasks count is = subst (λ l. HaveEnough count l) (sym is) tt
