@@ -1,14 +1,14 @@
 -- What is left to do when a task has been done.
-use Rattle.std.specs.Prelude.{◌≡◌, ◌≤◌, ◌<◌, ◌+◌, ◌-◌, ◌*◌, ℕ, zero, suc, Bool, true, false, List, [], ◌∷◌, ◌++◌, length, map, take, drop, Option, refl, if◌then◌else◌}
+use Rattle.std.specs.Prelude.{◌≡◌, ◌≤◌, ◌<◌, ◌+◌, ◌-◌, ℕ, zero, suc, Bool, true, false, List, [], ◌∷◌, ◌++◌, length, map, take, drop, Option, refl, if◌then◌else◌}
 use Rattle.std.proofs.Common.{◌∙◌, ap, sym, subst, arith}
 use Rattle.std.proofs.lemmas.List.{append_assoc, append-nil, length-append, length-map, length-take-le}
 use Rattle.merc_base.specs.declared.category.Category.{Category}
 use Rattle.merc_base.specs.declared.place.Span.{Span}
 use Rattle.merc_graded_tree.specs.declared.entries.Label.{Label}
-use Rattle.merc_graded_tree.specs.Labels.{labels_of, inner_labels}
-use Rattle.merc_graded_tree.specs.Nodes.{Node, node, Goal, goal_of, outputs_of, category_of, span_of}
+use Rattle.merc_graded_tree.specs.Labels.{labels_of}
+use Rattle.merc_graded_tree.specs.Nodes.{Node, node, category_of, span_of}
 use Rattle.merc_graded_tree.specs.Roots.{arity_of, last_joined, labelled}
-use Rattle.merc_par_split.specs.Rights.{Right, wait_at, signal_at, between, around}
+use Rattle.merc_par_split.specs.Rights.{Right, wait_at, signal_at, around}
 use Rattle.merc_par_split.specs.Split.{may_fail, split}
 use Rattle.merc_par_split.specs.Sites.{sites}
 use Rattle.merc_par_split.specs.Outcomes.{outcome, entered}

@@ -1,4 +1,4 @@
-use Rattle.std.proofs.Common.{◌≡◌, ◌++◌, ◌∷◌, [], length}
+use Rattle.std.proofs.Common.{◌≡◌, ◌∷◌, [], length}
 use Rattle.merc_par_split.specs.Tasks.{after_all, total, AllLie, HaveEnough}
 use Rattle.merc_par_split.specs.declared.tasks.Task.TheVariants.{Place}
 use Rattle.merc_par_split.proofs.StepLaws.{at_with}
