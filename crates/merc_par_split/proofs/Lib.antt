@@ -18,4 +18,5 @@ pub mod ConstructLaws
 pub mod ConjunctLaws
 pub mod SiteLaws
 pub mod SideLaws
+pub mod OutcomeLaws
 pub mod PerformLaws
