@@ -102,6 +102,7 @@ users-from variable from number (first ∷ rest) least =
   where
     low : nat_le from number ≡ true
     low = grind (arith, nat_tests, least)
+
     by : (b : Bool) → map suc (numbers_from (uses_it variable) from (suc number) rest) ≡ users (suc (suc number)) (nodes_of rest) variable
         → map suc (if b then number ∷ numbers_from (uses_it variable) from (suc number) rest else numbers_from (uses_it variable) from (suc number) rest)
         ≡ (if b then suc number ∷ users (suc (suc number)) (nodes_of rest) variable else users (suc (suc number)) (nodes_of rest) variable)
@@ -237,6 +238,7 @@ moved_fresh goals first (wait ∷ rest) = by (moves goals wait) refl (moved_fres
         ≡ map fresh (if b then wait.right ∷ used_in first (rights_of (filter (moves goals) rest)) else used_in first (rights_of (filter (moves goals) rest)))
     one true same more = ap (λ w. w ∷ filter (uses_first first) (filter (moves goals) rest)) (sym same) ∙ ap (λ l. fresh wait.right ∷ l) more
     one false same more = more
+
     by : (b : Bool) → moves goals wait ≡ b → filter (uses_first first) (filter (moves goals) rest) ≡ map fresh (used_in first (rights_of (filter (moves goals) rest)))
         → filter (uses_first first) (if b then wait ∷ filter (moves goals) rest else filter (moves goals) rest)
         ≡ map fresh (used_in first (rights_of (if b then wait ∷ filter (moves goals) rest else filter (moves goals) rest)))

@@ -70,8 +70,10 @@ turn_same placing list at = ap (λ l. after_all (turn_tasks placing l) at) (sym 
 
 pub whole_same : (placing : Placing) (root : Root) (list : List Node) (at : Progress) → arity_of root ≡ length list
     → after_all (whole_tasks placing root list) at
-    ≡ with_outcome at (around (rights_of placing.waits) placing.signals (labelled (relabelled placing.goal root) (shared (length at.sites) (shares_of 0 list [] [] [])).0),
-    (shared (length at.sites) (shares_of 0 list [] [] [])).1)
+    ≡ with_outcome at (
+      around (rights_of placing.waits) placing.signals (labelled (relabelled placing.goal root) (shared (length at.sites) (shares_of 0 list [] [] [])).0),
+      (shared (length at.sites) (shares_of 0 list [] [] [])).1,
+    )
 whole_same placing root list at size =
     let span = span_of placing.goal in
     let shares = shares_of 0 list [] [] [] in
@@ -175,6 +177,9 @@ conditional_same placing condition then_part else_part at =
     ∙ ap (λ g. at_with g ((at.sites ++ one.1) ++ come.1)) (append_assoc (at.goals ++ waits) (one.0 ∷ []) come.0)
     ∙ ap (λ s. at_with ((at.goals ++ waits) ++ one.0 ∷ come.0) s) (append_assoc at.sites one.1 come.1))
     (λ p. refl) refl
-    ∙ ap (λ s. with_outcome at (around before []
-    (node (Conditional one.0 (ahead_of two.0 (rights_of (filter (is_passed then_part) inside))) (ahead_of three.0 (rights_of (filter (is_passed else_part) inside))))
-    (outputs_of placing.goal) (category_of placing.goal) span), one.1 ++ (two.1 ++ s))) (append-nil three.1)
+    ∙ ap (λ s. with_outcome at (
+      around before []
+          (node (Conditional one.0 (ahead_of two.0 (rights_of (filter (is_passed then_part) inside))) (ahead_of three.0 (rights_of (filter (is_passed else_part) inside))))
+          (outputs_of placing.goal) (category_of placing.goal) span),
+      one.1 ++ (two.1 ++ s),
+    )) (append-nil three.1)

@@ -50,9 +50,11 @@ framed_go whole root before inner behind count here goes puts rest enough =
     let b = length before in
     let e : suc (here + (b + count)) ≡ suc (here + b + arity_of root - arity_of root) + count = omega arith in
     subst (λ l. HaveEnough (here + b) l) (sym (append_assoc inner (closed whole root b behind count) rest))
-    (goes (closed whole root b behind count ++ rest)
-    (omega arith, puts (suc (here + b + arity_of root - arity_of root)) (wraps (b + count) whole ++ rest)
-    (subst (λ n. HaveEnough n (wraps (b + count) whole ++ rest)) e (wraps_go whole here (b + count) rest enough))))
+    (goes (closed whole root b behind count ++ rest) (
+      omega arith,
+      puts (suc (here + b + arity_of root - arity_of root)) (wraps (b + count) whole ++ rest)
+          (subst (λ n. HaveEnough n (wraps (b + count) whole ++ rest)) e (wraps_go whole here (b + count) rest enough)),
+    ))
 
 pub total-append : (one other : List Task) → total (one ++ other) ≡ total one + total other
 total-append [] other = omega arith
@@ -136,13 +138,16 @@ pub members-lie : (whole : Node) (start number : ℕ) (goals : List Node) (waits
     → Lies (labels_of whole) start (all_labels goals) → Lie whole (member_tasks start (shares_of number goals waits signals passed))
 members-lie whole start number [] waits signals passed lies rest lie = lie
 members-lie whole start number (first ∷ goals) waits signals passed lies rest lie =
-    let later = start + length (labels_of first) in
-    (lies-front (labels_of whole) start (labels_of first) (all_labels goals) lies,
-    lie-append whole (passing first (row_of number passed)) (member_tasks later (shares_of (suc number) goals waits signals passed)) (passing-lie whole first (row_of number passed))
-    (members-lie whole later (suc number) goals waits signals passed (lies-back (labels_of whole) start (labels_of first) (all_labels goals) lies)) rest lie)
+    let later = start + length (labels_of first) in (
+      lies-front (labels_of whole) start (labels_of first) (all_labels goals) lies,
+      lie-append whole (passing first (row_of number passed)) (member_tasks later (shares_of (suc number) goals waits signals passed)) (passing-lie whole first (row_of number passed))
+          (members-lie whole later (suc number) goals waits signals passed (lies-back (labels_of whole) start (labels_of first) (all_labels goals) lies)) rest lie,
+    )
 
 pub framed-lie : (whole goal : Node) (root : Root) (before : List Right) (inner : List Task) (behind : Task) (count : ℕ)
     → Lie whole inner → ((rest : List Task) → AllLie whole rest → AllLie whole (behind ∷ rest)) → Lie whole (framed goal root before inner behind count)
-framed-lie whole goal root before inner behind count inside puts rest lie =
-    (tt, lie-append whole inner (closed goal root (length before) behind count) inside
-    (λ more so. (tt, puts (wraps (length before + count) goal ++ more) (wraps-lie whole goal (length before + count) more so))) rest lie)
+framed-lie whole goal root before inner behind count inside puts rest lie = (
+  tt,
+  lie-append whole inner (closed goal root (length before) behind count) inside
+      (λ more so. (tt, puts (wraps (length before + count) goal ++ more) (wraps-lie whole goal (length before + count) more so))) rest lie,
+)

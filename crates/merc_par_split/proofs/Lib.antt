@@ -20,3 +20,4 @@ pub mod SiteLaws
 pub mod SideLaws
 pub mod OutcomeLaws
 pub mod PerformLaws
+pub mod Entering

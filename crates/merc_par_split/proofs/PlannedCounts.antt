@@ -90,7 +90,7 @@ trees_more n left rest all trees trees' infos infos' l t s h =
     ap (λ (k : List Node). k ++ all_split (length infos') rest) t
     ∙ append_assoc trees (split (length infos) n ∷ []) (all_split (length infos') rest)
     ∙ ap (λ (k : ℕ). trees ++ split (length infos) n ∷ all_split k rest)
-      (ap length s ∙ both infos (sites n) (length infos) (forks n) refl (planned_count n nothing [] []))
+    (ap length s ∙ both infos (sites n) (length infos) (forks n) refl (planned_count n nothing [] []))
     ∙ ap (λ (k : List Node). trees ++ all_split (length infos) k) (sym l) ∙ h
 
 pub sites_more : (n : Node) (left rest : List Node) (all infos infos' : List SiteInfo) → left ≡ n ∷ rest → infos' ≡ infos ++ sites n → infos ++ all_sites left ≡ all → infos' ++ all_sites rest ≡ all

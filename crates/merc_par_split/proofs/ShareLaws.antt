@@ -194,6 +194,7 @@ pass-first first rest wait = by wait.later
   where
     v : ℕ
     v = wait.right.variable
+
     by : (b : Bool) → (if b then map (λ number. (number, wait.right)) (numbers_from (spared v) 0 0 (first ∷ rest)) else [])
         ≡ at_first (if b && not (in_node first v) then wait.right ∷ [] else []) ++ up (if b then map (λ number. (number, wait.right)) (numbers_from (spared v) 0 0 rest) else [])
     by true = shares-first (spared v) wait.right first rest
