@@ -8,6 +8,7 @@ use Rattle.merc_tree.specs.Types.{replaced}
 use Rattle.merc_tree.specs.declared.declarations.Module.{Module}
 use Rattle.merc_goal_tree.specs.declared.goal.Symbol.{Symbol}
 use Rattle.merc_graded_tree.specs.declared.basic.Procedure.{Procedure}
+use Rattle.merc_graded_tree.specs.declared.entries.Running.TheVariants.{Sequential}
 use Rattle.merc_graded_tree.specs.Nodes.{Node, Nodes, no_nodes, more_nodes, list_of, outputs_of}
 use Rattle.merc_graded_tree.specs.Variables.{in_node, in_nodes}
 use Rattle.merc_grading.specs.Categories.{conjunction_category}
@@ -76,7 +77,7 @@ module _ (known : Module) (types i : Instance) where
   -- sound goals that go one after the other
   pub record SoundAll (out : Variables) (b : Bound) (seen : Known) (ns : Nodes) : Type 0 where
     pub good : GoodNodes (modes_of known.preds) out b ns
-    pub graded : GradedAll known.types (modes_of known.preds) types seen ns
+    pub graded : GradedAll known.types (modes_of known.preds) types Sequential seen ns
     pub parts : AllByRecursion (IsPart known types i) (all_basic_goals ns)
     pub outputs : AllKeepOutputs (modes_of known.preds) ns
     pub beside : all_faults ns ≡ []
@@ -318,7 +319,7 @@ module _ (known : Module) (types i : Instance) (declared : AreGoodTypes known.ty
             (λ some sy e.
             let some_n : never1 → ⊥ = λ z. some (then_is_zero (category_at n) (Joined ns) (inl z)) in
             let some_ns : never2 → ⊥ = λ z. some (then_is_zero (category_at n) (Joined ns) (inr z)) in
-            elim (all_static known types i declared ns (with out (in_node n)) (with b (among outs)) seen1 sound2.good sound2.graded sound2.parts (sure_rest some_n) some_ns x (joins_right b outs x o.1) sy e) as (λ _. (vs : Values) × (fields sy v ≡ Some vs)) [
+            elim (all_static known types i declared Sequential ns (with out (in_node n)) (with b (among outs)) seen1 sound2.good sound2.graded sound2.parts (sure_rest some_n) some_ns x (joins_right b outs x o.1) sy e) as (λ _. (vs : Values) × (fields sy v ≡ Some vs)) [
               | inl p ↦ given some_n sy p
               | inr a ↦ a v ty
             ])

@@ -10,6 +10,7 @@ use Rattle.merc_tree.specs.declared.declarations.TypeDef.{TypeDef}
 use Rattle.merc_goal_tree.specs.declared.goal.Symbol.{Symbol}
 use Rattle.merc_graded_tree.specs.declared.basic.BasicGoal.{BasicGoal}
 use Rattle.merc_graded_tree.specs.declared.basic.BasicGoal.TheVariants.{True, Fail, Assign, Test, Build, Split, Arithmetic, Compare, Raise, Call, Wait, Signal}
+use Rattle.merc_graded_tree.specs.declared.entries.Running.{Running}
 use Rattle.merc_graded_tree.specs.Nodes.{Node, node, Goal, Basic, Conjunction, Disjunction, Switch, Conditional, Negation, Quantified, Nodes, no_nodes, more_nodes, list_of, outputs_of}
 use Rattle.merc_order.specs.Bound.{Bound, with, among}
 use Rattle.merc_order_laws.specs.Bindings.{Variables}
@@ -20,7 +21,7 @@ use Rattle.merc_grading.specs.Known.{same_symbol, symbols_of_type, is_single, Kn
 use Rattle.merc_grading.specs.Grading.{split_category, given, category_at, categories, basic_category, rule}
 use Rattle.merc_program_laws.proofs.Values.{same_number, chosen_true, chosen_false, symbol_decides}
 use Rattle.merc_program_laws.proofs.Maxima.{capped_fail, capped_is_zero, then_sure, then_is_zero}
-use Rattle.merc_program_laws.proofs.Graded.{Graded, GradedGoal, GradedAll}
+use Rattle.merc_program_laws.proofs.Graded.{Graded, GradedGoal, GradedAll, handed_or_zero}
 use Rattle.merc_script_laws.proofs.Seen.{other_more, other_with}
 
 free_apart : (b : Bound) (x y : ℕ) → b x ≡ true → b y ≡ false → y ≡ x → ⊥
@@ -73,19 +74,24 @@ module _ (declared : List TypeDef) (modes : ℕ → List ModeDecl) (types : ℕ 
     goal_stays : (g : Goal) (out : Variables) (b : Bound) (outs : List ℕ) (seen : Known) → GoodGoal modes out b outs g → GradedGoal declared modes types seen g → can_fail_of (Rule seen g) ≡ false → (most_of (Rule seen g) ≡ Zero → ⊥)
         → (x : ℕ) → b x ≡ true → (s : Symbol) → known_of seen x ≡ Some s → known_of (known_behind_goal g seen) x ≡ Some s
     goal_stays (Basic g) out b outs seen good has sure some x h s e = basic_stays g out b outs seen good sure x h s e
-    goal_stays (Conjunction running ns) out b outs seen good has sure some x h s e = all_stay ns out b seen good.0 has sure some x h s e
+    goal_stays (Conjunction running ns) out b outs seen good has sure some x h s e = all_stay running ns out b seen good.0 has sure some x h s e
     goal_stays (Disjunction ns) out b outs seen good has sure some x h s e = e
     goal_stays (Switch y arms) out b outs seen good has sure some x h s e = e
     goal_stays (Conditional c t f) out b outs seen good has sure some x h s e = e
     goal_stays (Negation n) out b outs seen good has sure some x h s e = e
     goal_stays (Quantified own n) out b outs seen good has sure some x h s e = known_stays n out b seen good.0 has sure some x h s e
 
-    all_stay : (ns : Nodes) (out : Variables) (b : Bound) (seen : Known) → GoodNodes modes out b ns → GradedAll declared modes types seen ns → can_fail_of (Joined ns) ≡ false → (most_of (Joined ns) ≡ Zero → ⊥) → (x : ℕ) → b x ≡ true
+    all_stay : (running : Running) (ns : Nodes) (out : Variables) (b : Bound) (seen : Known) → GoodNodes modes out b ns → GradedAll declared modes types running seen ns → can_fail_of (Joined ns) ≡ false → (most_of (Joined ns) ≡ Zero → ⊥) → (x : ℕ) → b x ≡ true
         → (s : Symbol) → known_of seen x ≡ Some s → known_of (known_behind_all ns seen) x ≡ Some s
-    all_stay no_nodes out b seen good has sure some x h s e = e
-    all_stay (more_nodes n ns) out b seen good has sure some x h s e =
+    all_stay running no_nodes out b seen good has sure some x h s e = e
+    all_stay running (more_nodes n ns) out b seen good has sure some x h s e =
         let each = then_sure (category_at n) (Joined ns) sure in
         let some_n : most_of (category_at n) ≡ Zero → ⊥ = λ z. some (then_is_zero (category_at n) (Joined ns) (inl z)) in
         let sure_ns : can_fail_of (Joined ns) ≡ false = elim each.1 as (λ _. can_fail_of (Joined ns) ≡ false) [ inl z ↦ absurd (some_n z) | inr q ↦ q ] in
-        all_stay ns _ (with b (among (outputs_of n))) (known_behind n seen) good.1 has.1 sure_ns (λ z. some (then_is_zero (category_at n) (Joined ns) (inr z))) x (or_left (b x) (among (outputs_of n) x) h) s
+        let has_ns : GradedAll declared modes types running (known_behind n seen) ns =
+        elim (handed_or_zero running (category_at n) (known_behind n seen) seen) as (λ _. GradedAll declared modes types running (known_behind n seen) ns) [
+          | inl same ↦ subst (λ (k : Known). GradedAll declared modes types running k ns) same has.1
+          | inr z ↦ absurd (some_n z)
+        ] in
+        all_stay running ns _ (with b (among (outputs_of n))) (known_behind n seen) good.1 has_ns sure_ns (λ z. some (then_is_zero (category_at n) (Joined ns) (inr z))) x (or_left (b x) (among (outputs_of n) x) h) s
         (known_stays n _ b seen good.0 has.0 each.0 some_n x h s e)
