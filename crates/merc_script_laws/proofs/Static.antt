@@ -65,13 +65,13 @@ module _ (modes : ℕ → List ModeDecl) where
   learns_basic (Assign to from) seen out b outs good x s o e =
       known_copied to x (known_of seen from) s seen e
       (λ p. inr (subst (λ z. with b (among outs) z ≡ true) p
-        (sym (good.2 to (among_here to (from ∷ [])) (subst (λ z. out z ≡ true) (sym p) o)) ∙ or_right (b to) (among (to ∷ []) to) (among_here to []))))
+      (sym (good.2 to (among_here to (from ∷ [])) (subst (λ z. out z ≡ true) (sym p) o)) ∙ or_right (b to) (among (to ∷ []) to) (among_here to []))))
       (λ k. inl k)
   learns_basic (Test y z) seen out b outs good x s o e = inl e
   learns_basic (Build whole t args) seen out b outs good x s o e =
       known_more whole x t s seen e
       (λ p q. inr (subst (λ z. with b (among outs) z ≡ true) p
-        (sym (good.2 whole (among_here whole args) (subst (λ z. out z ≡ true) (sym p) o)) ∙ or_right (b whole) (among (whole ∷ []) whole) (among_here whole []))))
+      (sym (good.2 whole (among_here whole args) (subst (λ z. out z ≡ true) (sym p) o)) ∙ or_right (b whole) (among (whole ∷ []) whole) (among_here whole []))))
       (λ k. inl k)
   learns_basic (Split whole t args) seen out b outs good x s o e =
       known_more whole x t s seen e (λ p q. inr (or_left (b x) (among outs x) (subst (λ z. b z ≡ true) p good.0))) (λ k. inl k)
@@ -158,7 +158,7 @@ module _ (known : Module) (types i : Instance) (declared : AreGoodTypes known.ty
   static_basic (Split whole t args) seen out b outs good part c x s h e =
       known_more whole x t s seen e
       (λ p q. subst (λ z. Static seen z s) p (subst (λ z. Static seen whole z) q
-        (split_static seen whole t args part.0 (known_of seen whole) refl (is_single (symbols_of_type known.types (types whole))) refl c)))
+      (split_static seen whole t args part.0 (known_of seen whole) refl (is_single (symbols_of_type known.types (types whole))) refl c)))
       (λ k. inl k)
   static_basic (Arithmetic op w y z) seen out b outs good part c x s h e = inl e
   static_basic (Compare test y z) seen out b outs good part c x s h e = inl e
@@ -210,7 +210,7 @@ module _ (known : Module) (types i : Instance) (declared : AreGoodTypes known.ty
     static_all no_nodes seen out b good has parts c m x s h e = inl e
     static_all (more_nodes n ns) seen out b good has parts c m x s h e =
         elim (static_all ns (known_behind n seen) (with out (in_node n)) (with b (among (outputs_of n))) good.1 has.1 (all_right (IsPart known types i) (basic_goals n) (all_basic_goals ns) parts)
-            (rest_sure n ns c (first_some n ns m)) (rest_some n ns m) x s (or_left (b x) (among (outputs_of n) x) h) e) as (λ _. Static seen x s) [
+        (rest_sure n ns c (first_some n ns m)) (rest_some n ns m) x s (or_left (b x) (among (outputs_of n) x) h) e) as (λ _. Static seen x s) [
           | inl k ↦ static_known n seen (with out (in_nodes ns)) b good.0 has.0 (all_left (IsPart known types i) (basic_goals n) (all_basic_goals ns) parts) (first_sure n ns c) (first_some n ns m) x s h k
           | inr k ↦ inr k
         ]
