@@ -12,6 +12,7 @@ use Rattle.merc_goal_tree.specs.declared.goal.Symbol.{Symbol}
 use Rattle.merc_type_check.specs.Typing.{HasSymbol}
 use Rattle.merc_graded_tree.specs.declared.basic.BasicGoal.{BasicGoal}
 use Rattle.merc_graded_tree.specs.declared.basic.BasicGoal.TheVariants.{True, Fail, Assign, Test, Build, Split, Arithmetic, Compare, Raise, Call, Wait, Signal}
+use Rattle.merc_graded_tree.specs.declared.entries.Running.{Running}
 use Rattle.merc_graded_tree.specs.Nodes.{Node, node, Goal, Basic, Conjunction, Disjunction, Switch, Conditional, Negation, Quantified, Nodes, no_nodes, more_nodes, list_of, outputs_of}
 use Rattle.merc_graded_tree.specs.Variables.{in_node, in_nodes, in_goal}
 use Rattle.merc_order.specs.Bound.{Bound, with, among}
@@ -35,7 +36,7 @@ use Rattle.merc_program_laws.proofs.Lawful.{Knows}
 use Rattle.merc_program_laws.proofs.Knowing.{split_sure}
 use Rattle.merc_program_laws.proofs.Maxima.{capped_fail, capped_is_zero, then_is_zero, then_sure}
 use Rattle.merc_program_laws.proofs.TreeCategories.{IsPart}
-use Rattle.merc_program_laws.proofs.Graded.{Graded, GradedGoal, GradedAll}
+use Rattle.merc_program_laws.proofs.Graded.{Graded, GradedGoal, GradedAll, handed_or_zero}
 use Rattle.merc_script_laws.proofs.Seen.{behind_other, behind_all_other}
 
 -- a symbol that is known of one variable more
@@ -197,19 +198,25 @@ module _ (known : Module) (types i : Instance) (declared : AreGoodTypes known.ty
         → can_fail_of (rule known.types (modes_of known.preds) types seen g) ≡ false → (most_of (rule known.types (modes_of known.preds) types seen g) ≡ Zero → ⊥) → (x : ℕ) (s : Symbol) → b x ≡ true
         → known_of (known_behind_goal g seen) x ≡ Some s → Static seen x s
     static_goal (Basic g) seen out b outs good has parts c m x s h e = static_basic g seen out b outs good parts.0 c x s h e
-    static_goal (Conjunction running ns) seen out b outs good has parts c m x s h e = static_all ns seen out b good.0 has parts c m x s h e
+    static_goal (Conjunction running ns) seen out b outs good has parts c m x s h e = static_all running ns seen out b good.0 has parts c m x s h e
     static_goal (Disjunction ns) seen out b outs good has parts c m x s h e = inl e
     static_goal (Switch y arms) seen out b outs good has parts c m x s h e = inl e
     static_goal (Conditional p t f) seen out b outs good has parts c m x s h e = inl e
     static_goal (Negation n) seen out b outs good has parts c m x s h e = inl e
     static_goal (Quantified own n) seen out b outs good has parts c m x s h e = static_known n seen out b good.0 has parts c m x s h e
 
-    pub static_all : (ns : Nodes) (seen : Known) (out : Variables) (b : Bound) → GoodNodes (modes_of known.preds) out b ns → GradedAll known.types (modes_of known.preds) types seen ns → AllByRecursion (IsPart known types i) (all_basic_goals ns)
+    pub static_all : (running : Running) (ns : Nodes) (seen : Known) (out : Variables) (b : Bound) → GoodNodes (modes_of known.preds) out b ns → GradedAll known.types (modes_of known.preds) types running seen ns
+        → AllByRecursion (IsPart known types i) (all_basic_goals ns)
         → can_fail_of (conjunction_category (categories (list_of ns))) ≡ false → (most_of (conjunction_category (categories (list_of ns))) ≡ Zero → ⊥) → (x : ℕ) (s : Symbol) → b x ≡ true → known_of (known_behind_all ns seen) x ≡ Some s
         → Static seen x s
-    static_all no_nodes seen out b good has parts c m x s h e = inl e
-    static_all (more_nodes n ns) seen out b good has parts c m x s h e =
-        elim (static_all ns (known_behind n seen) (with out (in_node n)) (with b (among (outputs_of n))) good.1 has.1 (all_right (IsPart known types i) (basic_goals n) (all_basic_goals ns) parts)
+    static_all running no_nodes seen out b good has parts c m x s h e = inl e
+    static_all running (more_nodes n ns) seen out b good has parts c m x s h e =
+        let has_ns : GradedAll known.types (modes_of known.preds) types running (known_behind n seen) ns =
+        elim (handed_or_zero running (category_at n) (known_behind n seen) seen) as (λ _. GradedAll known.types (modes_of known.preds) types running (known_behind n seen) ns) [
+          | inl same ↦ subst (λ (k : Known). GradedAll known.types (modes_of known.preds) types running k ns) same has.1
+          | inr z ↦ absurd (first_some n ns m z)
+        ] in
+        elim (static_all running ns (known_behind n seen) (with out (in_node n)) (with b (among (outputs_of n))) good.1 has_ns (all_right (IsPart known types i) (basic_goals n) (all_basic_goals ns) parts)
         (rest_sure n ns c (first_some n ns m)) (rest_some n ns m) x s (or_left (b x) (among (outputs_of n) x) h) e) as (λ _. Static seen x s) [
           | inl k ↦ static_known n seen (with out (in_nodes ns)) b good.0 has.0 (all_left (IsPart known types i) (basic_goals n) (all_basic_goals ns) parts) (first_sure n ns c) (first_some n ns m) x s h k
           | inr k ↦ inr k
