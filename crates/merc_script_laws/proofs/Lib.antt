@@ -51,3 +51,12 @@ pub mod Dets
 pub mod Begins
 pub mod Behind
 pub mod BehindWaits
+pub mod BindingOnce
+pub mod AcceptedSound
+pub mod SplitPrograms
+pub mod Alone
+pub mod CallTrees
+pub mod Top
+pub mod Joining
+pub mod Trees
+pub mod AcceptedScripts
