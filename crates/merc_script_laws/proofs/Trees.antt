@@ -1,5 +1,5 @@
 -- Each goal of the split trees goes as its trace.
-use Rattle.std.proofs.Common.{ℕ, suc, ◌+◌, List, [], Option}
+use Rattle.std.proofs.Common.{◌≡◌, ℕ, suc, ◌+◌, Bool, true, false, if◌then◌else◌, nat_eq, List, [], Option, Some, subst}
 use Rattle.merc_base.specs.declared.category.Category.{Category}
 use Rattle.merc_base.specs.declared.place.Span.{Span}
 use Rattle.merc_tree.specs.declared.declarations.Module.{Module}
@@ -10,7 +10,7 @@ use Rattle.merc_graded_tree.specs.Nodes.{Node, node, Goal, Basic, Conjunction, D
 use Rattle.merc_meaning.specs.Trace.{Env, Trace}
 use Rattle.merc_meaning.specs.Runs.{Program}
 use Rattle.merc_program_laws.specs.GoodPrograms.{AreGoodTypes}
-use Rattle.merc_program_laws.proofs.Values.{Instance}
+use Rattle.merc_program_laws.proofs.Values.{Instance, none_not, same_some}
 use Rattle.merc_program_laws.proofs.Calls.{LawfulCalls}
 use Rattle.merc_par_split.specs.Forks.{forks}
 use Rattle.merc_par_split.specs.Split.{nothing, placed, placed_goal, placed_in_turn, placed_arms, placed_alone}
@@ -26,6 +26,7 @@ use Rattle.merc_script_laws.proofs.JoinedLeaves.{EachGoes, each_none, each_one, 
 use Rattle.merc_script_laws.proofs.PlacedGoals.{placed_node, placed_conj, placed_quantified, placed_switch, placed_if}
 use Rattle.merc_script_laws.proofs.Placing.{planned_front, planned_back}
 use Rattle.merc_script_laws.proofs.Runs.{goes_leaf}
+use Rattle.merc_script_laws.proofs.Sites.{nth}
 use Rattle.merc_script_laws.proofs.SwitchArms.{ArmsGo, no_arms_go, arms_go}
 
 -- Given are the module, the types of the variables, and what type variables stand for; the program of the graded trees, whose calls are lawful; and the plan and
@@ -39,13 +40,17 @@ module _ (known : Module) (types i : Instance) (declared : AreGoodTypes known.ty
   In g outs cat span site =
       Goes known types i program calls plan split course (node g outs cat span) (λ later w s. placed_goal site later w s g outs cat span) (λ later w s. Planned plan site (planned_goal later w s g outs))
 
-  abbrev pub AllAt : Nodes → ℕ → Type 1
-  AllAt no_nodes site = Unit {1}
-  AllAt (more_nodes n ns) site = At n site × AllAt ns (site + forks n)
+  -- each of some goals goes, from any site on
+  abbrev pub EachAt : Nodes → Type 1
+  EachAt ns = (k : ℕ) (n : Node) → nth 1 k ns ≡ Some n → (site : ℕ) → At n site
 
   -- parallel conjunctions go, where their conjuncts do
   abbrev pub BesideGo : Type 1
-  BesideGo = (place : Option Site) (ns : Nodes) (outs : List ℕ) (cat : Option Category) (span : Span) (site : ℕ) → AllAt ns (suc site) → In (Conjunction (Parallel place) ns) outs cat span site
+  BesideGo = (place : Option Site) (ns : Nodes) (outs : List ℕ) (cat : Option Category) (span : Span) (site : ℕ) → EachAt ns → In (Conjunction (Parallel place) ns) outs cat span site
+
+  goes_which : (m n : Node) (ns : Nodes) (at k : ℕ) (z : Bool) → ((site : ℕ) → At m site) → (nth at k ns ≡ Some n → (site : ℕ) → At n site) → (if z then Some m else nth at k ns) ≡ Some n → (site : ℕ) → At n site
+  goes_which m n ns at k true one rest e site = subst (λ (v : Node). At v site) (same_some e) (one site)
+  goes_which m n ns at k false one rest e site = rest e site
 
   module _ (beside : BesideGo) where
     mutual
@@ -57,7 +62,7 @@ module _ (known : Module) (types i : Instance) (declared : AreGoodTypes known.ty
           goes_leaf known types i declared program calls lawful plan split course (Basic g) (Basic g) outs cat span (λ later w s. Planned plan site [])
           (λ later w s fit. leaf_basic known types i program calls lawful split course go plan outs cat span declared g)
       goes_in (Conjunction Sequential ns) outs cat span site = placed_conj known types i declared program calls lawful plan split course site outs cat span ns (goes_list ns site)
-      goes_in (Conjunction (Parallel place) ns) outs cat span site = beside place ns outs cat span site (all_at ns (suc site))
+      goes_in (Conjunction (Parallel place) ns) outs cat span site = beside place ns outs cat span site (λ k n e at. goes_at ns 1 k n e at)
       goes_in (Disjunction ns) outs cat span site =
           goes_leaf known types i declared program calls lawful plan split course (Disjunction ns) (Disjunction (placed_alone site ns)) outs cat span (λ later w s. Planned plan site (planned_alone ns))
           (λ later w s fit. leaf_disj known types i declared program calls lawful plan split course ns (placed_alone site ns) outs cat span (goes_each ns site fit))
@@ -80,9 +85,9 @@ module _ (known : Module) (types i : Instance) (declared : AreGoodTypes known.ty
           (planned_front plan site (planned nothing [] [] n) (planned_alone ns) fit) ns (placed_alone (site + forks n) ns)
           (goes_each ns (site + forks n) (planned_back plan site (forks n) (planned nothing [] [] n) (planned_alone ns) (planned_count n nothing [] []) fit))
 
-      all_at : (ns : Nodes) (site : ℕ) → AllAt ns site
-      all_at no_nodes site = tt
-      all_at (more_nodes n ns) site = (goes_node n site, all_at ns (site + forks n))
+      goes_at : (ns : Nodes) (at k : ℕ) (n : Node) → nth at k ns ≡ Some n → (site : ℕ) → At n site
+      goes_at no_nodes at k n e site = absurd (none_not e)
+      goes_at (more_nodes m ns) at k n e site = goes_which m n ns (suc at) k (nat_eq k at) (λ s. goes_node m s) (λ q s. goes_at ns (suc at) k n q s) e site
 
       goes_arms : (arms : Arms) (site : ℕ) → ArmsGo known types i declared program calls lawful plan split course arms (λ later w s. placed_arms site later w s arms) (λ later w s. Planned plan site (planned_arms later w s arms))
       goes_arms no_arms site = no_arms_go known types i declared program calls lawful plan split course (λ later w s. Planned plan site [])
