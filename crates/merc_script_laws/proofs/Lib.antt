@@ -32,7 +32,8 @@ pub mod Cells
 pub mod Sites
 pub mod SiteMoves
 pub mod Counts
-pub mod Static
+pub mod Learning
 pub mod Placed
 pub mod Kids
 pub mod Conjuncts
+pub mod Sights
