@@ -37,3 +37,4 @@ pub mod Placed
 pub mod Kids
 pub mod Conjuncts
 pub mod Sights
+pub mod ConjunctsKeep
