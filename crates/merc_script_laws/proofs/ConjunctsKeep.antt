@@ -48,7 +48,7 @@ use Rattle.merc_script_laws.proofs.StaticKnown.{KnownBefore}
 use Rattle.merc_script_laws.proofs.Placed.{in_placed}
 use Rattle.merc_script_laws.proofs.Kids.{info, own, fact_of, OwnSign, sign_cases, same_own, own_low}
 use Rattle.merc_script_laws.proofs.Conjuncts.{rights_to, fork, At, at_next, wk, sk, here_k, hold_k, this_one, binds_sign, names_k, fit_k, ready_k, within_k, rightful_k, own_right}
-use Rattle.merc_script_laws.proofs.Sights.{handed, Nonzero, zero_or, gift_sides, AllSound, AllCertain, HasSymbolOf, Typed, from_static, static_rest, Sights, sights_next, next_static, AreProper, fine_k}
+use Rattle.merc_script_laws.proofs.Sights.{FineFor, handed, Nonzero, zero_or, gift_sides, AllSound, AllCertain, HasSymbolOf, Typed, from_static, static_rest, Sights, sights_next, next_static, AreProper, fine_k}
 
 -- What a course gives is proper, where it keeps to its rights.
 abbrev pub GivesProper : Type 1
@@ -82,7 +82,7 @@ module _ (known : Module) (types i : Instance) (declared : AreGoodTypes known.ty
       → Goes known types i program calls plan split course n (λ later v z. placed site later v z n) (λ later v z. Planned plan site (planned later v z n))
 
   module _ (goals : Nodes) (outputs : List ℕ) (w s : List Right) (out : Variables) (b : Bound) (seen : Known) (here : Set) (hold : Hold) (distinct : AreDistinct (all_outputs goals)) (free : (x : ℕ) → has x (all_outputs goals) ≡ true → b x ≡ false)
-      (fit : Fit b here w hold) (ready : Ready here w b (in_nodes goals)) (names_are : Names hold) (single : (x : ℕ) → are_for w x ≡ true → (length (users 1 goals x) == 1) ≡ true) (fine : Fine known types i out b (in_nodes goals) seen hold)
+      (fit : Fit b here w hold) (ready : Ready here w b (in_nodes goals)) (names_are : Names hold) (single : (x : ℕ) → are_for w x ≡ true → (length (users 1 goals x) == 1) ≡ true) (fine : FineFor known types i declared out b (in_nodes goals) seen w hold)
       (goes : EachGoes goals) (counts : (x : ℕ) → are_for s x ≡ true → length (rights_for x s) ≡ length (signs x hold)) where
     abbrev pub Stands : ℕ → List ℕ → Bound → Nodes → Type 0
     Stands k left bk ns = At goals outputs w s b here hold distinct free fit ready names_are single fine.exact k left bk ns

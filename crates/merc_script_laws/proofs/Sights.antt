@@ -18,10 +18,13 @@ use Rattle.merc_grading.specs.Categories.{is_zero, conjunction_category}
 use Rattle.merc_grading.specs.Known.{Known, known_of, known_behind, known_behind_all}
 use Rattle.merc_grading.specs.Grading.{category_at, categories}
 use Rattle.merc_value.specs.Value.{Value, Values}
+use Rattle.merc_meaning.specs.Trace.{Env}
 use Rattle.merc_meaning.specs.Values.{fields}
+use Rattle.merc_meaning.specs.Steps.{value_at}
 use Rattle.merc_program_laws.specs.ValueTypes.{HasType}
 use Rattle.merc_program_laws.specs.GoodPrograms.{AreGoodTypes}
-use Rattle.merc_program_laws.proofs.Values.{Instance}
+use Rattle.merc_program_laws.proofs.Values.{Instance, is_some_of, same_some}
+use Rattle.merc_program_laws.proofs.Lawful.{Fits}
 use Rattle.merc_program_laws.proofs.Maxima.{then_is_zero}
 use Rattle.merc_core.specs.Rights.{has}
 use Rattle.merc_core.specs.WellFormed.{AreDistinct}
@@ -31,10 +34,10 @@ use Rattle.merc_plan.specs.Branch.{Hold, NamedCell, names, Gift, gift_at, value_
 use Rattle.merc_plan.specs.Hold.{child_for}
 use Rattle.merc_plan.proofs.Sets.{clash, tell, or_left, or_right, in_left, in_right, look_past, look_before, in_either}
 use Rattle.merc_script_laws.specs.Parallel.{all_outputs}
-use Rattle.merc_script_laws.proofs.Bonds.{Set, Here, Owed, signs, Fit, Names, Ready, Fine, Sound, Proper}
+use Rattle.merc_script_laws.proofs.Bonds.{Set, Here, Owed, Fit, Match, Names, Ready, Fine, Sound}
 use Rattle.merc_script_laws.proofs.Members.{Member, is_numbered, distinct_apart}
 use Rattle.merc_script_laws.proofs.Sites.{among_has, has_among, nth, first_nth, nth_in}
-use Rattle.merc_script_laws.proofs.SiteMoves.{good_occurs, signal_child}
+use Rattle.merc_script_laws.proofs.SiteMoves.{good_occurs, wait_child}
 use Rattle.merc_script_laws.proofs.Seen.{behind_other}
 use Rattle.merc_script_laws.proofs.StaticKnown.{KnownBefore, HasAlways, static_known}
 use Rattle.merc_script_laws.proofs.Learning.{learns}
@@ -80,6 +83,41 @@ module _ (known : Module) (types i : Instance) (declared : AreGoodTypes known.ty
   AllCertain no_nodes = ⊤
   AllCertain (more_nodes n ns) = (can_fail_of (category_at n) ≡ false) × AllCertain ns
 
+  -- as Fine, of what these rights to wait are for
+  pub record FineFor (out : Variables) (b : Bound) (occurs : Variables) (seen : Known) (w : List Right) (hold : Hold) : Type 0 where
+    pub exact : (x : ℕ) (v : Value) → occurs x ≡ true → Here hold x v → b x ≡ true
+    pub outer : (x : ℕ) → occurs x ≡ true → b x ≡ true → out x ≡ true
+    pub typed : (x : ℕ) (v : Value) → Here hold x v → HasType known.types v (replaced i (types x))
+    pub typed_owed : (x c : ℕ) (v : Value) → are_for w x ≡ true → Owed hold x c (Some v) → HasType known.types v (replaced i (types x))
+    pub bound : (x : ℕ) (s : Symbol) → occurs x ≡ true → known_of seen x ≡ Some s → b x ≡ true
+    pub knows : (x : ℕ) (s : Symbol) (v : Value) → known_of seen x ≡ Some s → Here hold x v → (vs : Values) × (fields s v ≡ Some vs)
+    pub knows_owed : (x c : ℕ) (s : Symbol) (v : Value) → are_for w x ≡ true → occurs x ≡ true → known_of seen x ≡ Some s → Owed hold x c (Some v) → (vs : Values) × (fields s v ≡ Some vs)
+
+  pub fine_for : (out : Variables) (b : Bound) (occurs : Variables) (seen : Known) (w : List Right) (hold : Hold) → Fine known types i out b occurs seen hold → FineFor out b occurs seen w hold
+  fine_for out b occurs seen w hold f = record {
+    exact = f.exact;
+    outer = f.outer;
+    typed = f.typed;
+    typed_owed = λ x c v h o. f.typed_owed x c v o;
+    bound = f.bound;
+    knows = f.knows;
+    knows_owed = λ x c s v h o e q. f.knows_owed x c s v o e q;
+  }
+
+  -- where the trace's environment fits and has what is here and what comes
+  pub fits_for : (out : Variables) (b : Bound) (occurs : Variables) (seen : Known) (w : List Right) (hold : Hold) (full : Env) → Fits known types i out b occurs seen full → Match w hold full → FineFor out b occurs seen w hold
+  fits_for out b occurs seen w hold full f t = record {
+    exact = λ x v o h. sym (f.bounds x o) ∙ is_some_of (value_at full x) v (t.same x v h);
+    outer = f.outer;
+    typed = λ x v h. f.typed x v (t.same x v h);
+    typed_owed = λ x c v h o. let q = t.comes x c (Some v) h o in f.typed x v (q.1.1 ∙ sym q.1.0);
+    bound = λ x s o e. let k = f.knows x s e in sym (f.bounds x o) ∙ is_some_of (value_at full x) k.0 k.2;
+    knows = λ x s v e h. has x s v e (t.same x v h);
+    knows_owed = λ x c s v h j e o. let q = t.comes x c (Some v) h o in has x s v e (q.1.1 ∙ sym q.1.0);
+  } where
+    has : (x : ℕ) (s : Symbol) (v : Value) → known_of seen x ≡ Some s → value_at full x ≡ Some v → (vs : Values) × (fields s v ≡ Some vs)
+    has x s v e h = let k = f.knows x s e in (k.1, ap (fields s) (same_some (sym h ∙ k.2)) ∙ k.3)
+
   abbrev pub HasSymbolOf : Symbol → Value → Type 0
   HasSymbolOf s v = (vs : Values) × (fields s v ≡ Some vs)
 
@@ -111,7 +149,7 @@ module _ (known : Module) (types i : Instance) (declared : AreGoodTypes known.ty
     on (inr q) rec = first (rec q.0)
 
   module _ (goals : Nodes) (outputs : List ℕ) (w s : List Right) (out : Variables) (b : Bound) (seen : Known) (here : Set) (hold : Hold) (distinct : AreDistinct (all_outputs goals)) (free : (x : ℕ) → has x (all_outputs goals) ≡ true → b x ≡ false)
-      (fit : Fit b here w hold) (ready : Ready here w b (in_nodes goals)) (names : Names hold) (single : (x : ℕ) → are_for w x ≡ true → (length (users 1 goals x) == 1) ≡ true) (fine : Fine known types i out b (in_nodes goals) seen hold) where
+      (fit : Fit b here w hold) (ready : Ready here w b (in_nodes goals)) (names : Names hold) (single : (x : ℕ) → are_for w x ≡ true → (length (users 1 goals x) == 1) ≡ true) (fine : FineFor out b (in_nodes goals) seen w hold) where
     abbrev pub Stands : ℕ → List ℕ → Bound → Nodes → Type 0
     Stands k left bk ns = At goals outputs w s b here hold distinct free fit ready names single fine.exact k left bk ns
 
@@ -121,7 +159,7 @@ module _ (known : Module) (types i : Instance) (declared : AreGoodTypes known.ty
       pub lefts : (x : ℕ) → has x left ≡ true → outk x ≡ true
       pub bound : (x : ℕ) (sy : Symbol) → in_nodes ns x ≡ true → known_of seenk x ≡ Some sy → bk x ≡ true
       pub knows : (x : ℕ) (sy : Symbol) (v : Value) → known_of seenk x ≡ Some sy → Here hold x v → (vs : Values) × (fields sy v ≡ Some vs)
-      pub knows_owed : (x c : ℕ) (sy : Symbol) (v : Value) → in_nodes goals x ≡ true → known_of seenk x ≡ Some sy → Owed hold x c (Some v) → (vs : Values) × (fields sy v ≡ Some vs)
+      pub knows_owed : (x c : ℕ) (sy : Symbol) (v : Value) → are_for w x ≡ true → in_nodes goals x ≡ true → known_of seenk x ≡ Some sy → Owed hold x c (Some v) → (vs : Values) × (fields sy v ≡ Some vs)
       pub ends : (most_of (conjunction_category (categories (list_of goals))) ≡ Zero → ⊥) → (known_behind_all ns seenk ≡ known_behind_all goals seen) × (most_of (conjunction_category (categories (list_of ns))) ≡ Zero → ⊥)
 
     pub sights_first : Sights 1 [] b out seen goals
@@ -172,7 +210,7 @@ module _ (known : Module) (types i : Instance) (declared : AreGoodTypes known.ty
         lefts = λ x h. lefts x (in_either x left (outputs_of n) h);
         bound = next_bound;
         knows = λ x sy v e h. from_static seenk x sy v (next_static x sy (λ j. a.grows x (fine.exact x v (in_goals x j) h)) e) (fine.typed x v h) (λ p. q.knows x sy v p h);
-        knows_owed = λ x c sy v j e o. from_static seenk x sy v (next_static x sy (λ l. a.grows x (fit.known x c (Some v) o)) e) (fine.typed_owed x c v o) (λ p. q.knows_owed x c sy v j p o);
+        knows_owed = λ x c sy v y j e o. from_static seenk x sy v (next_static x sy (λ l. a.grows x (fit.known x c (Some v) o)) e) (fine.typed_owed x c v y o) (λ p. q.knows_owed x c sy v y j p o);
         ends = ends;
       } where
         lefts : (x : ℕ) → (has x left ≡ true) ⊎ (has x (outputs_of n) ≡ true) → with outk (in_node n) x ≡ true
@@ -224,8 +262,8 @@ module _ (known : Module) (types i : Instance) (declared : AreGoodTypes known.ty
         typed_owed : (x c : ℕ) (v : Value) → OwnWait goals outputs w s hold k goal given x c (Some v) ⊎ ((child_for false x (info goals outputs w s hold).moves ≡ Some k) × Owed hold x c (Some v)) → HasType known.types v (replaced i (types x))
         typed_owed x c v (inl o) = subst (λ z. HasType known.types v (replaced i (types z))) o.variable
             (proper o.one o.there v (subst (λ z. gift_at z given ≡ Some (Some v)) (sym o.cell) (given_some (gift_at c given) v o.value))).1.0
-        typed_owed x c v (inr o) = fine.typed_owed x c v o.1
+        typed_owed x c v (inr o) = fine.typed_owed x c v (wait_child outputs w s goals x k o.0).0 o.1
         knows_owed : (x c : ℕ) (sy : Symbol) (v : Value) → in_node n x ≡ true → known_of seenk x ≡ Some sy → OwnWait goals outputs w s hold k goal given x c (Some v) ⊎ ((child_for false x (info goals outputs w s hold).moves ≡ Some k) × Owed hold x c (Some v)) → (vs : Values) × (fields sy v ≡ Some vs)
         knows_owed x c sy v h e (inl o) =
             (proper o.one o.there v (subst (λ z. gift_at z given ≡ Some (Some v)) (sym o.cell) (given_some (gift_at c given) v o.value))).1.1 sy (subst (λ z. known_of seenk z ≡ Some sy) (sym o.variable) e)
-        knows_owed x c sy v h e (inr o) = q.knows_owed x c sy v (in_all_goals x h) e o.1
+        knows_owed x c sy v h e (inr o) = q.knows_owed x c sy v (wait_child outputs w s goals x k o.0).0 (in_all_goals x h) e o.1
