@@ -110,10 +110,10 @@ module _ (known : Module) (types i : Instance) (declared : AreGoodTypes known.ty
       abbrev pub goal : Node
       goal = placed at nothing waits signals n
 
-      all_used : AllUsed waits (in_node n)
+      pub all_used : AllUsed waits (in_node n)
       all_used x h = (those_in (in_node n) (rights_to k left ++ w) x h).1
 
-      is_within : Within signals (outputs_of n)
+      pub is_within : Within signals (outputs_of n)
       is_within x h = has_among x (outputs_of n) (signals_within (suc k) ns outputs s n x h)
 
       pub same : (x : ℕ) → in_node goal x ≡ in_node n x

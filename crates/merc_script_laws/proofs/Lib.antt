@@ -38,3 +38,4 @@ pub mod Kids
 pub mod Conjuncts
 pub mod Sights
 pub mod ConjunctsKeep
+pub mod ConjunctsAlong
