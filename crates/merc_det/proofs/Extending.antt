@@ -14,7 +14,7 @@ pub record Extends (known later : Known) : Type 0 where
   pub front : Known
   pub is : later ≡ front ++ known
 
-same : (known : Known) → Extends known known
+pub same : (known : Known) → Extends known known
 same known = record { front = []; is = refl }
 
 pub one_more : (variable : ℕ) (symbol : Symbol) (known : Known) → Extends known ((variable, symbol) ∷ known)

@@ -85,7 +85,7 @@ arms_fewer (more_arms symbol body rest) = let h = arms_fewer rest in omega (arit
 
 goal_fewer : (goal : Goal) → node_turns (goals_in goal) ≤ goal_turns goal
 goal_fewer (Basic goal) = omega arith
-goal_fewer (Conjunction running goals) = joined_fewer goals
+goal_fewer (Conjunction running goals) = let h = joined_fewer goals in omega (arith, h)
 goal_fewer (Disjunction goals) = joined_fewer goals
 goal_fewer (Switch variable arms) = arms_fewer arms
 goal_fewer (Conditional condition then_part else_part) = omega arith

@@ -1,20 +1,22 @@
 -- What each task leaves to do leads to the same.
-use Rattle.std.specs.Prelude.{◌≡◌, ℕ, List, [], ◌∷◌, ◌++◌, length, Result, Ok, Err, OnOk}
+use Rattle.std.specs.Prelude.{◌≡◌, ℕ, Bool, true, false, List, [], ◌∷◌, ◌++◌, length, Result, Ok, Err, OnOk, if◌then◌else◌}
 use Rattle.std.proofs.Common.{◌∙◌, ap, sym, subst}
 use Rattle.merc_tree.specs.Types.{TypeExpr}
 use Rattle.merc_tree.specs.declared.declarations.ModeDecl.{ModeDecl}
 use Rattle.merc_tree.specs.declared.declarations.TypeDef.{TypeDef}
 use Rattle.merc_goal_tree.specs.declared.goal.Symbol.{Symbol}
+use Rattle.merc_graded_tree.specs.declared.entries.Running.{Running}
+use Rattle.merc_graded_tree.specs.declared.entries.Running.TheVariants.{Sequential, Parallel}
 use Rattle.merc_graded_tree.specs.Nodes.{Node, node, Goal, Basic, Conjunction, Disjunction, Switch, Conditional, Negation, Quantified, Nodes, no_nodes, more_nodes, Arms, no_arms, more_arms, goal_of}
 use Rattle.merc_graded_tree.specs.Roots.{root_of}
 use Rattle.merc_grading.specs.Fitting.{Fits, FitsGoal, FitsAll, FitsArms}
 use Rattle.merc_grading.specs.Known.{Known}
 use Rattle.merc_det.specs.Closing.{closed, known_behind_root}
 use Rattle.merc_det.specs.Seen.{back_to}
-use Rattle.merc_det.specs.Tasks.{tasks_in_turn, choice_tasks, arm_tasks, inner_tasks, plan, Progress, after, after_all, TaskFits, TasksFit, Leads, Keeps}
+use Rattle.merc_det.specs.Tasks.{conjunct_task, tasks_in_turn, tell_tasks, inner_tells, last_has_none, choice_tasks, arm_tasks, recall_tasks, inner_tasks, plan, Progress, after, after_all, TaskFits, TasksFit, Leads, Keeps}
 use Rattle.merc_det.specs.declared.planning.Task.{Task}
-use Rattle.merc_det.specs.declared.planning.Task.TheVariants.{Grade, Learn, Forget, Close}
-use Rattle.merc_det.proofs.Running.{run-append, plan_run}
+use Rattle.merc_det.specs.declared.planning.Task.TheVariants.{Grade, Beside, Withhold, Recall, Tell, Learn, Forget, Close}
+use Rattle.merc_det.proofs.Running.{run-append, plan_run, beside_run, tells_run, recalled_run}
 
 module _ (declared : List TypeDef) (types : ℕ → TypeExpr) where
   fit-both : (front back : List Task) → TasksFit declared types front → TasksFit declared types back → TasksFit declared types (front ++ back)
@@ -30,9 +32,14 @@ module _ (declared : List TypeDef) (types : ℕ → TypeExpr) where
   fit-parts (first ∷ rest) back (one, others) =
       let inner = fit-parts rest back others in record { front_is = (one, inner.front_is); back_is = inner.back_is }
 
-  in_turn_fit : (goals : Nodes) → FitsAll declared types goals → TasksFit declared types (tasks_in_turn goals)
-  in_turn_fit no_nodes fits = tt
-  in_turn_fit (more_nodes first rest) (one, others) = fit-both (tasks_in_turn rest) (Grade first ∷ []) (in_turn_fit rest others) (one, tt)
+  conjunct_fit : (running : Running) (goal : Node) → Fits declared types goal → TaskFits declared types (conjunct_task running goal)
+  conjunct_fit Sequential goal fits = fits
+  conjunct_fit (Parallel site) goal fits = fits
+
+  in_turn_fit : (running : Running) (goals : Nodes) → FitsAll declared types goals → TasksFit declared types (tasks_in_turn running goals)
+  in_turn_fit running no_nodes fits = tt
+  in_turn_fit running (more_nodes first rest) (one, others) =
+      fit-both (tasks_in_turn running rest) (conjunct_task running first ∷ []) (in_turn_fit running rest others) (conjunct_fit running first one, tt)
 
   choices_fit : (known : ℕ) (goals : Nodes) → FitsAll declared types goals → TasksFit declared types (choice_tasks known goals)
   choices_fit known no_nodes fits = tt
@@ -46,29 +53,63 @@ module _ (declared : List TypeDef) (types : ℕ → TypeExpr) where
 
   inner_fit : (known : ℕ) (goal : Goal) → FitsGoal declared types goal → TasksFit declared types (inner_tasks known goal)
   inner_fit known (Basic goal) fits = tt
-  inner_fit known (Conjunction running goals) fits = in_turn_fit goals fits
+  inner_fit known (Conjunction running goals) fits = in_turn_fit running goals fits
   inner_fit known (Disjunction goals) fits = choices_fit known goals fits
   inner_fit known (Switch variable arms) (some, fits) = arms_fit known variable arms fits
   inner_fit known (Conditional condition then_part else_part) (one, two, three) = (tt, (three, (tt, (two, (one, tt)))))
   inner_fit known (Negation goal) fits = (tt, (fits, tt))
   inner_fit known (Quantified own goal) fits = (fits, tt)
 
+  recall_fit : (known : ℕ) (whole : Node) (goal : Goal) → TasksFit declared types (recall_tasks known whole goal)
+  recall_fit known whole (Basic goal) = tt
+  recall_fit known whole (Conjunction Sequential goals) = tt
+  recall_fit known whole (Conjunction (Parallel site) goals) = (tt, (tt, tt))
+  recall_fit known whole (Disjunction goals) = tt
+  recall_fit known whole (Switch variable arms) = tt
+  recall_fit known whole (Conditional condition then_part else_part) = tt
+  recall_fit known whole (Negation goal) = tt
+  recall_fit known whole (Quantified own goal) = tt
+
   plan_fit : (known : ℕ) (whole : Node) → Fits declared types whole → TasksFit declared types (plan known whole)
-  plan_fit known (node goal outputs category span) fits = (fits, inner_fit known goal fits)
+  plan_fit known (node goal outputs category span) fits =
+      let whole = node goal outputs category span in
+      fit-both (recall_tasks known whole goal) (Close whole ∷ inner_tasks known goal) (recall_fit known whole goal) (fits, inner_fit known goal fits)
+
+  tell_fit : (goals : Nodes) → TasksFit declared types (tell_tasks goals)
+  tell_fit no_nodes = tt
+  tell_fit (more_nodes first rest) = fit-both (tell_tasks rest) (Tell first ∷ []) (tell_fit rest) (tt, tt)
+
+  inner_tell_fit : (goal : Goal) → TasksFit declared types (inner_tells goal)
+  inner_tell_fit (Basic goal) = tt
+  inner_tell_fit (Conjunction running goals) = tell_fit goals
+  inner_tell_fit (Disjunction goals) = tt
+  inner_tell_fit (Switch variable arms) = tt
+  inner_tell_fit (Conditional condition then_part else_part) = tt
+  inner_tell_fit (Negation goal) = tt
+  inner_tell_fit (Quantified own goal) = (tt, tt)
+
+  recalled_fit : (b : Bool) (whole : Node) → TasksFit declared types (if b then Tell whole ∷ [] else [])
+  recalled_fit true whole = (tt, tt)
+  recalled_fit false whole = tt
 
 module _ (declared : List TypeDef) (modes : ℕ → List ModeDecl) (types : ℕ → TypeExpr) where
+  -- tasks in place of the last one
+  pub replaced_keeps : (tasks new later : List Task) (task : Task) (from to : Progress) → new ≡ tasks ++ later → (TaskFits declared types task → TasksFit declared types later)
+      → after_all declared modes types later to ≡ after declared modes types task from → Keeps declared modes types (tasks ++ task ∷ []) from new to
+  replaced_keeps tasks new later task from to e fits done fit =
+      let parts = fit-parts declared types tasks (task ∷ []) fit in
+      let run = after_all declared modes types in
+      record {
+        fit = subst (λ l. TasksFit declared types l) (sym e) (fit-both declared types tasks later parts.front_is (fits parts.back_is.0));
+        same = ap (λ l. run l to) e ∙ run-append declared modes types tasks later to ∙ ap (run tasks) done
+            ∙ sym (run-append declared modes types tasks (task ∷ []) from);
+      }
+
   pub plan_keeps : (tasks new : List Task) (known : ℕ) (whole : Node) (at : Progress) → known ≡ length at.known → new ≡ tasks ++ plan known whole
       → Keeps declared modes types (tasks ++ Grade whole ∷ []) at new at
-  plan_keeps tasks new known whole at count e fit =
-      let parts = fit-parts declared types tasks (Grade whole ∷ []) fit in
-      let run = after_all declared modes types in
-      let planned : run (plan known whole) at ≡ after declared modes types (Grade whole) at =
-      ap (λ k. run (plan k whole) at) count ∙ plan_run declared modes types whole at in
-      record {
-        fit = subst (λ l. TasksFit declared types l) (sym e) (fit-both declared types tasks (plan known whole) parts.front_is (plan_fit declared types known whole parts.back_is.0));
-        same = ap (λ l. run l at) e ∙ run-append declared modes types tasks (plan known whole) at ∙ ap (run tasks) planned
-            ∙ sym (run-append declared modes types tasks (Grade whole ∷ []) at);
-      }
+  plan_keeps tasks new known whole at count e =
+      replaced_keeps tasks new (plan known whole) (Grade whole) at at e (plan_fit declared types known whole)
+      (ap (λ k. after_all declared modes types (plan k whole) at) count ∙ plan_run declared modes types whole at)
 
   pub rest_keeps : (tasks : List Task) (task : Task) (from to : Progress) → (TaskFits declared types task → to ≡ after declared modes types task from)
       → Keeps declared modes types (tasks ++ task ∷ []) from tasks to
@@ -89,6 +130,34 @@ module _ (declared : List TypeDef) (modes : ℕ → List ModeDecl) (types : ℕ 
   grade_keeps tasks new task known whole goals seen is count e =
       subst (λ t. Keeps declared modes types (tasks ++ t ∷ []) (reached goals seen) new (reached goals seen)) (sym is)
       (plan_keeps tasks new known whole (reached goals seen) count e)
+
+  pub beside_keeps : (tasks new : List Task) (task : Task) (known : ℕ) (whole : Node) (goals : List Node) (seen : Known) → task ≡ Beside whole → known ≡ length seen
+      → new ≡ tasks ++ Withhold known ∷ Grade whole ∷ [] → Keeps declared modes types (tasks ++ task ∷ []) (reached goals seen) new (reached goals seen)
+  beside_keeps tasks new task known whole goals seen is count e =
+      subst (λ t. Keeps declared modes types (tasks ++ t ∷ []) (reached goals seen) new (reached goals seen)) (sym is)
+      (replaced_keeps tasks new (Withhold known ∷ Grade whole ∷ []) (Beside whole) (reached goals seen) (reached goals seen) e (λ fits. (tt, (fits, tt)))
+      (ap (λ k. after_all declared modes types (Withhold k ∷ Grade whole ∷ []) (reached goals seen)) count ∙ beside_run declared modes types whole (reached goals seen)))
+
+  pub withhold_keeps : (tasks : List Task) (task : Task) (count : ℕ) (goals : List Node) (seen now : Known) → task ≡ Withhold count
+      → now ≡ (if last_has_none goals then back_to count seen else seen) → Keeps declared modes types (tasks ++ task ∷ []) (reached goals seen) tasks (reached goals now)
+  withhold_keeps tasks task count goals seen now is e =
+      subst (λ t. Keeps declared modes types (tasks ++ t ∷ []) (reached goals seen) tasks (reached goals now)) (sym is)
+      (rest_keeps tasks (Withhold count) (reached goals seen) (reached goals now) (λ fits. ap (reached goals) e))
+
+  pub recall_keeps : (tasks new : List Task) (task : Task) (whole : Node) (goals : List Node) (seen : Known) → task ≡ Recall whole
+      → new ≡ tasks ++ (if last_has_none goals then Tell whole ∷ [] else []) → Keeps declared modes types (tasks ++ task ∷ []) (reached goals seen) new (reached goals seen)
+  recall_keeps tasks new task whole goals seen is e =
+      subst (λ t. Keeps declared modes types (tasks ++ t ∷ []) (reached goals seen) new (reached goals seen)) (sym is)
+      (replaced_keeps tasks new (if last_has_none goals then Tell whole ∷ [] else []) (Recall whole) (reached goals seen) (reached goals seen) e
+      (λ fits. recalled_fit declared types (last_has_none goals) whole) (recalled_run declared modes types (last_has_none goals) whole (reached goals seen)))
+
+  pub tell_keeps : (tasks new : List Task) (task : Task) (whole : Node) (goals : List Node) (seen now : Known) → task ≡ Tell whole
+      → now ≡ known_behind_root (root_of (goal_of whole)) seen → new ≡ tasks ++ inner_tells (goal_of whole)
+      → Keeps declared modes types (tasks ++ task ∷ []) (reached goals seen) new (reached goals now)
+  tell_keeps tasks new task whole goals seen now is told e =
+      subst (λ t. Keeps declared modes types (tasks ++ t ∷ []) (reached goals seen) new (reached goals now)) (sym is)
+      (replaced_keeps tasks new (inner_tells (goal_of whole)) (Tell whole) (reached goals seen) (reached goals now) e (λ fits. inner_tell_fit declared types (goal_of whole))
+      (ap (λ k. after_all declared modes types (inner_tells (goal_of whole)) (reached goals k)) told ∙ tells_run declared modes types whole seen goals))
 
   pub learn_keeps : (tasks : List Task) (task : Task) (variable : ℕ) (symbol : Symbol) (goals : List Node) (seen now : Known) → task ≡ Learn variable symbol
       → now ≡ (variable, symbol) ∷ seen → Keeps declared modes types (tasks ++ task ∷ []) (reached goals seen) tasks (reached goals now)

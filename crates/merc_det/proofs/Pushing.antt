@@ -14,26 +14,38 @@ use Rattle.merc_graded_tree.specs.Nodes.{Node, nodes_of}
 use Rattle.merc_graded_tree.specs.Roots.{arms_of, bodies_of, goals_in}
 use Rattle.merc_graded_tree.proofs.JoinLaws.{arms_none, arms_past, list_of-nodes_of}
 use Rattle.merc_graded_tree.proofs.Reversed.{reversed_step}
-use Rattle.merc_det.specs.Tasks.{tasks_in_turn, choice_tasks, arm_task, arm_tasks}
+use Rattle.merc_det.specs.Tasks.{conjunct_task, tasks_in_turn, tell_tasks, choice_tasks, arm_task, arm_tasks}
 use Rattle.merc_det.specs.declared.planning.Task.{Task}
-use Rattle.merc_det.specs.declared.planning.Task.TheVariants.{Grade, Learn, Forget}
+use Rattle.merc_det.specs.declared.planning.Task.TheVariants.{Grade, Tell, Learn, Forget}
 
 -- what is to come loses what is pushed
 pub step : {X : Type 0} (old new pushed later rest whole : List X) → new ≡ old ++ pushed → later ≡ pushed ++ rest → old ++ later ≡ whole → new ++ rest ≡ whole
 step old new pushed later rest whole e f same =
     ap (λ l. l ++ rest) e ∙ append_assoc old pushed rest ∙ ap (λ l. old ++ l) (sym f) ∙ same
 
--- goals one after the other
+-- goals one after the other, or beside one another
 
-in_turn-last : (goals : List Node) (last : Node) → tasks_in_turn (nodes_of (goals ++ last ∷ [])) ≡ Grade last ∷ tasks_in_turn (nodes_of goals)
-in_turn-last [] last = refl
-in_turn-last (first ∷ rest) last = ap (λ l. l ++ Grade first ∷ []) (in_turn-last rest last)
+in_turn-last : (running : Running) (goals : List Node) (last : Node) → tasks_in_turn running (nodes_of (goals ++ last ∷ [])) ≡ conjunct_task running last ∷ tasks_in_turn running (nodes_of goals)
+in_turn-last running [] last = refl
+in_turn-last running (first ∷ rest) last = ap (λ l. l ++ conjunct_task running first ∷ []) (in_turn-last running rest last)
 
-pub in_turn_step : (old new : List Task) (goals left : List Node) (last : Node) (whole : List Task) → goals ≡ left ++ last ∷ [] → new ≡ old ++ Grade last ∷ []
-    → old ++ tasks_in_turn (nodes_of goals) ≡ whole → new ++ tasks_in_turn (nodes_of left) ≡ whole
-in_turn_step old new goals left last whole e f same =
-    step old new (Grade last ∷ []) (tasks_in_turn (nodes_of goals)) (tasks_in_turn (nodes_of left)) whole f
-    (ap (λ l. tasks_in_turn (nodes_of l)) e ∙ in_turn-last left last) same
+pub in_turn_step : (running : Running) (old new : List Task) (goals left : List Node) (last : Node) (task : Task) (whole : List Task) → goals ≡ left ++ last ∷ [] → task ≡ conjunct_task running last
+    → new ≡ old ++ task ∷ [] → old ++ tasks_in_turn running (nodes_of goals) ≡ whole → new ++ tasks_in_turn running (nodes_of left) ≡ whole
+in_turn_step running old new goals left last task whole e t f same =
+    step old new (task ∷ []) (tasks_in_turn running (nodes_of goals)) (tasks_in_turn running (nodes_of left)) whole f
+    (ap (λ l. tasks_in_turn running (nodes_of l)) e ∙ in_turn-last running left last ∙ ap (λ one. one ∷ tasks_in_turn running (nodes_of left)) (sym t)) same
+
+-- goals that tell again what they tell
+
+tell-last : (goals : List Node) (last : Node) → tell_tasks (nodes_of (goals ++ last ∷ [])) ≡ Tell last ∷ tell_tasks (nodes_of goals)
+tell-last [] last = refl
+tell-last (first ∷ rest) last = ap (λ l. l ++ Tell first ∷ []) (tell-last rest last)
+
+pub tell_step : (old new : List Task) (goals left : List Node) (last : Node) (whole : List Task) → goals ≡ left ++ last ∷ [] → new ≡ old ++ Tell last ∷ []
+    → old ++ tell_tasks (nodes_of goals) ≡ whole → new ++ tell_tasks (nodes_of left) ≡ whole
+tell_step old new goals left last whole e f same =
+    step old new (Tell last ∷ []) (tell_tasks (nodes_of goals)) (tell_tasks (nodes_of left)) whole f
+    (ap (λ l. tell_tasks (nodes_of l)) e ∙ tell-last left last) same
 
 -- disjuncts
 

@@ -7,8 +7,9 @@ ghost use Rattle.merc_grading.specs.Grading.{graded};
 ghost use Rattle.merc_det.specs.Tasks.{all_turns, AreEnough, Keeps};
 
 use crate::closing::close;
-use crate::planning::{Task, leave, plan};
+use crate::planning::{Task, leave, plan, plan_beside};
 use crate::seen::SeenSymbols;
+use crate::telling::{recall, tell, withhold};
 use merc_base::NoMemory;
 use merc_graded_tree::{NodeRef, Nodes};
 use merc_name_resolution::Known;
@@ -20,7 +21,8 @@ use std::alloc::Global;
 ///
 /// The category of a part comes from the categories of the goals that it joins and, for a split, from the symbol that is
 /// known of its variable: docs/LANGUAGE.md, “Determinism categories”. This takes time of the order of n log n, with n the
-/// number of the goal's parts and of the variables in them, and the greatest number of a variable.
+/// number of the goal's parts and of the variables in them, and the greatest number of a variable; of parallel conjunctions
+/// that have no solution, the conjuncts are gone through once more.
 ///
 /// # Errors
 ///
@@ -78,6 +80,13 @@ fn perform<'a>(
 {
     match task {
         Task::Grade(goal) => plan(goal, seen.len(), tasks),
+        Task::Beside(goal) => plan_beside(goal, seen.len(), tasks),
+        Task::Withhold(length) => {
+            withhold(length, seen, nodes);
+            Ok(())
+        }
+        Task::Recall(goal) => recall(goal, nodes, tasks),
+        Task::Tell(goal) => tell(goal, seen, tasks),
         Task::Learn(variable, symbol) => seen.learn(variable, symbol),
         Task::Forget(length) => {
             seen.forget(length);

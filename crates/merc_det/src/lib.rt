@@ -9,6 +9,7 @@ mod grading;
 mod planning;
 mod seen;
 mod symbols;
+mod telling;
 
 pub use faults::{first_of, procedure_fault, query_fault};
 pub use grading::grade;

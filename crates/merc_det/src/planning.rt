@@ -3,17 +3,25 @@ ghost use Rattle.std.specs.Prelude.{◌≡◌, [], ◌∷◌, ◌++◌, slice_ge
 ghost use Rattle.merc_graded_tree.specs.Nodes.{nodes_of};
 ghost use Rattle.merc_graded_tree.specs.Roots.{arms_of};
 ghost use Rattle.merc_graded_tree.specs.Views.{viewed};
-ghost use Rattle.merc_det.specs.Tasks.{arm_task, arm_tasks, choice_tasks, inner_tasks, plan, tasks_in_turn};
+ghost use Rattle.merc_det.specs.Tasks.{arm_task, arm_tasks, choice_tasks, conjunct_task, inner_tasks, plan, recall_tasks, tasks_in_turn};
 
 use merc_base::NoMemory;
 use merc_goal_tree::{Symbol, Var};
-use merc_graded_tree::{NodeRef, NodeView, Parts};
+use merc_graded_tree::{NodeRef, NodeView, Parts, Running};
 
 /// One thing to do. The last of a list of tasks comes first.
 #[derive(Drop)]
 pub(crate) enum Task<'a> {
     /// To put the goal with all its categories behind the others.
     Grade(NodeRef<'a>),
+    /// The same of a conjunct of `&`, which hands on nothing if it has no solution.
+    Beside(NodeRef<'a>),
+    /// What became known behind the first so many symbols is forgotten if the last goal has no solution.
+    Withhold(usize),
+    /// What this goal tells is known if the last goal has no solution.
+    Recall(NodeRef<'a>),
+    /// What the goal tells is known.
+    Tell(NodeRef<'a>),
     /// The symbol is known of the variable.
     Learn(Var, Symbol),
     /// What became known behind the first so many symbols is forgotten.
@@ -23,7 +31,8 @@ pub(crate) enum Task<'a> {
 }
 
 /// Plans a goal: those that it joins, each with what is known where it stands, and then the goal itself. So many symbols
-/// are known before it.
+/// are known before it. Behind a parallel conjunction all is known that its conjuncts tell, also what one that has no
+/// solution kept from the others.
 ///
 /// # Errors
 ///
@@ -36,8 +45,33 @@ pub(crate) fn plan<'a>(
     ensures { OnOk result (tasks.new.items ≡ tasks.old.items ++ plan known goal.entry) }
 {
     let view = goal.view();
+    plan_recall(&goal, &view, known, tasks)?;
     leave(Task::Close(goal), tasks)?;
     plan_inner(view, known, tasks)
+}
+
+// Plans that what the conjuncts of `&` tell is known behind them all.
+fn plan_recall<'a>(
+    goal: &NodeRef<'a>,
+    view: &NodeView<'a>,
+    known: usize,
+    tasks: &mut Vec<Task<'a>>,
+) -> Result<(), NoMemory>
+    ensures { OnOk result (tasks.new.items ≡ tasks.old.items ++ recall_tasks known goal.now (viewed view.now)) }
+{
+    match view {
+        NodeView::Conjunction(Running::Parallel(_), _) => {
+            leave(Task::Recall(goal.copy()), tasks)?;
+            leave(Task::Withhold(known), tasks)
+        }
+        NodeView::Conjunction(Running::Sequential, _)
+        | NodeView::Basic(_)
+        | NodeView::Disjunction(_)
+        | NodeView::Switch(_, _, _)
+        | NodeView::Conditional(_, _, _)
+        | NodeView::Negation(_)
+        | NodeView::Quantified(_, _) => Ok(()),
+    }
 }
 
 // Plans the goals that a goal joins.
@@ -50,7 +84,7 @@ fn plan_inner<'a>(
 {
     match view {
         NodeView::Basic(_) => Ok(()),
-        NodeView::Conjunction(_, goals) => plan_in_turn(goals, tasks),
+        NodeView::Conjunction(running, goals) => plan_in_turn(running, goals, tasks),
         NodeView::Disjunction(goals) => plan_choices(goals, known, tasks),
         NodeView::Switch(variable, symbols, arms) => {
             plan_arms(variable, symbols.as_slice(), arms, known, tasks)
@@ -78,15 +112,44 @@ fn plan_conditional<'a>(
     leave(Task::Grade(condition), tasks)
 }
 
-// Plans goals that run one after the other.
-fn plan_in_turn<'a>(goals: Parts<'a>, tasks: &mut Vec<Task<'a>>) -> Result<(), NoMemory>
-    ensures { OnOk result (tasks.new.items ≡ tasks.old.items ++ tasks_in_turn (nodes_of goals.entry)) }
+// Plans goals that run one after the other, or beside one another.
+fn plan_in_turn<'a>(
+    running: Running,
+    goals: Parts<'a>,
+    tasks: &mut Vec<Task<'a>>,
+) -> Result<(), NoMemory>
+    ensures { OnOk result (tasks.new.items ≡ tasks.old.items ++ tasks_in_turn running (nodes_of goals.entry)) }
 {
     let mut left = goals;
     while let Some(last) = left.take_last() {
-        leave(Task::Grade(last), tasks)?;
+        leave(conjunct_task(running, last), tasks)?;
     }
     Ok(())
+}
+
+fn conjunct_task(running: Running, goal: NodeRef<'_>) -> Task<'_>
+    ensures { result ≡ conjunct_task running goal.entry }
+{
+    match running {
+        Running::Sequential => Task::Grade(goal),
+        Running::Parallel(_) => Task::Beside(goal),
+    }
+}
+
+/// Plans a conjunct of `&`, which hands on nothing if it has no solution. So many symbols are known before it.
+///
+/// # Errors
+///
+/// `NoMemory` where memory was refused.
+pub(crate) fn plan_beside<'a>(
+    goal: NodeRef<'a>,
+    known: usize,
+    tasks: &mut Vec<Task<'a>>,
+) -> Result<(), NoMemory>
+    ensures { OnOk result (tasks.new.items ≡ tasks.old.items ++ Task.Withhold known ∷ Task.Grade goal.entry ∷ []) }
+{
+    leave(Task::Withhold(known), tasks)?;
+    leave(Task::Grade(goal), tasks)
 }
 
 // Plans goals, each from what is known before the first.

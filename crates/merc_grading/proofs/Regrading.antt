@@ -4,6 +4,7 @@ use Rattle.std.proofs.Common.{◌∙◌, ap}
 use Rattle.merc_tree.specs.Types.{TypeExpr}
 use Rattle.merc_tree.specs.declared.declarations.ModeDecl.{ModeDecl}
 use Rattle.merc_tree.specs.declared.declarations.TypeDef.{TypeDef}
+use Rattle.merc_graded_tree.specs.declared.entries.Running.{Running}
 use Rattle.merc_graded_tree.specs.Nodes.{Node, node, Goal, Basic, Conjunction, Disjunction, Switch, Conditional, Negation, Quantified, Nodes, no_nodes, more_nodes, Arms, no_arms, more_arms}
 use Rattle.merc_grading.specs.Known.{Known, known_behind, known_behind_goal, known_behind_all}
 use Rattle.merc_grading.specs.Grading as grading
@@ -15,8 +16,12 @@ module _ (declared : List TypeDef) (modes : ℕ → List ModeDecl) (types : ℕ 
   abbrev grade_goal : Known → Goal → Goal
   grade_goal = grading.graded_goal declared modes types
 
-  abbrev grade_all : Known → Nodes → Nodes
+  abbrev grade_all : Running → Known → Nodes → Nodes
   grade_all = grading.graded_all declared modes types
+
+  -- what is known at the goal behind the first
+  abbrev next : Running → Known → Node → Known
+  next running known first = grading.handed_on running (grading.category_at (grade known first)) (known_behind first known) known
 
   abbrev grade_each : Known → Nodes → Nodes
   grade_each = grading.graded_each declared modes types
@@ -31,18 +36,18 @@ module _ (declared : List TypeDef) (modes : ℕ → List ModeDecl) (types : ℕ 
 
     same_known_goal : (known other : Known) (goal : Goal) → known_behind_goal (grade_goal known goal) other ≡ known_behind_goal goal other
     same_known_goal known other (Basic goal) = refl
-    same_known_goal known other (Conjunction running goals) = same_known_all known other goals
+    same_known_goal known other (Conjunction running goals) = same_known_all running known other goals
     same_known_goal known other (Disjunction goals) = refl
     same_known_goal known other (Switch variable arms) = refl
     same_known_goal known other (Conditional condition then_part else_part) = refl
     same_known_goal known other (Negation goal) = refl
     same_known_goal known other (Quantified own goal) = same_known known other goal
 
-    same_known_all : (known other : Known) (goals : Nodes) → known_behind_all (grade_all known goals) other ≡ known_behind_all goals other
-    same_known_all known other no_nodes = refl
-    same_known_all known other (more_nodes first rest) =
-        ap (λ k. known_behind_all (grade_all (known_behind first known) rest) k) (same_known known other first)
-        ∙ same_known_all (known_behind first known) (known_behind first other) rest
+    same_known_all : (running : Running) (known other : Known) (goals : Nodes) → known_behind_all (grade_all running known goals) other ≡ known_behind_all goals other
+    same_known_all running known other no_nodes = refl
+    same_known_all running known other (more_nodes first rest) =
+        ap (λ k. known_behind_all (grade_all running (next running known first) rest) k) (same_known known other first)
+        ∙ same_known_all running (next running known first) (known_behind first other) rest
 
   mutual
     pub again : (known : Known) (tree : Node) → grade known (grade known tree) ≡ grade known tree
@@ -51,7 +56,7 @@ module _ (declared : List TypeDef) (modes : ℕ → List ModeDecl) (types : ℕ 
 
     again_goal : (known : Known) (goal : Goal) → grade_goal known (grade_goal known goal) ≡ grade_goal known goal
     again_goal known (Basic goal) = refl
-    again_goal known (Conjunction running goals) = ap (Conjunction running) (again_all known goals)
+    again_goal known (Conjunction running goals) = ap (Conjunction running) (again_all running known goals)
     again_goal known (Disjunction goals) = ap Disjunction (again_each known goals)
     again_goal known (Switch variable arms) = ap (Switch variable) (again_arms known variable arms)
     again_goal known (Conditional condition then_part else_part) =
@@ -63,13 +68,14 @@ module _ (declared : List TypeDef) (modes : ℕ → List ModeDecl) (types : ℕ 
     again_goal known (Negation goal) = ap Negation (again known goal)
     again_goal known (Quantified own goal) = ap (Quantified own) (again known goal)
 
-    again_all : (known : Known) (goals : Nodes) → grade_all known (grade_all known goals) ≡ grade_all known goals
-    again_all known no_nodes = refl
-    again_all known (more_nodes first rest) =
-        let behind = known_behind first known in
-        ap (λ f. more_nodes f (grade_all (known_behind (grade known first) known) (grade_all behind rest))) (again known first)
-        ∙ ap (λ k. more_nodes (grade known first) (grade_all k (grade_all behind rest))) (same_known known known first)
-        ∙ ap (λ r. more_nodes (grade known first) r) (again_all behind rest)
+    again_all : (running : Running) (known : Known) (goals : Nodes) → grade_all running known (grade_all running known goals) ≡ grade_all running known goals
+    again_all running known no_nodes = refl
+    again_all running known (more_nodes first rest) =
+        let later = next running known first in
+        let handed = λ (c : Node) (k : Known). grading.handed_on running (grading.category_at c) k known in
+        ap (λ f. more_nodes f (grade_all running (handed f (known_behind (grade known first) known)) (grade_all running later rest))) (again known first)
+        ∙ ap (λ k. more_nodes (grade known first) (grade_all running (handed (grade known first) k) (grade_all running later rest))) (same_known known known first)
+        ∙ ap (λ r. more_nodes (grade known first) r) (again_all running later rest)
 
     again_each : (known : Known) (goals : Nodes) → grade_each known (grade_each known goals) ≡ grade_each known goals
     again_each known no_nodes = refl

@@ -1,5 +1,6 @@
 -- The category of a goal, from those that its parts have, and a goal with all categories.
 use Rattle.std.specs.Prelude.{ℕ, Bool, true, false, List, [], ◌∷◌, map, Option, Some, None, slice_get, if◌then◌else◌}
+use Rattle.merc_base.specs.Category.{most_of}
 use Rattle.merc_base.specs.declared.category.Category.{Category}
 use Rattle.merc_base.specs.declared.category.Category.TheVariants.{Det, Semidet, Nondet, Erroneous, Failure}
 use Rattle.merc_tree.specs.Types.{TypeExpr}
@@ -8,9 +9,11 @@ use Rattle.merc_tree.specs.declared.declarations.TypeDef.{TypeDef}
 use Rattle.merc_goal_tree.specs.declared.goal.Symbol.{Symbol}
 use Rattle.merc_graded_tree.specs.declared.basic.BasicGoal.{BasicGoal}
 use Rattle.merc_graded_tree.specs.declared.basic.BasicGoal.TheVariants.{True, Fail, Assign, Test, Build, Split, Arithmetic, Compare, Raise, Call, Wait, Signal}
+use Rattle.merc_graded_tree.specs.declared.entries.Running.{Running}
+use Rattle.merc_graded_tree.specs.declared.entries.Running.TheVariants.{Sequential, Parallel}
 use Rattle.merc_graded_tree.specs.Nodes.{Node, node, Goal, Basic, Conjunction, Disjunction, Switch, Conditional, Negation, Quantified, Nodes, no_nodes, more_nodes, Arms, no_arms, more_arms, list_of, category_of}
 use Rattle.merc_graded_tree.specs.Roots.{symbols_of, bodies_of}
-use Rattle.merc_grading.specs.Categories.{conjunction_category, disjunction_category, switch_category, conditional_category, negation_category, once}
+use Rattle.merc_grading.specs.Categories.{conjunction_category, disjunction_category, switch_category, conditional_category, negation_category, once, is_zero}
 use Rattle.merc_grading.specs.Known.{same_symbol, symbols_of_type, are_complete, is_single, Known, known_of, known_behind}
 
 -- A split where the type has one symbol alone or not, by the symbol that is known.
@@ -39,6 +42,11 @@ categories goals = map category_at goals
 abbrev pub capped : List ℕ → Category → Category
 capped [] inner = once inner
 capped (output ∷ outputs) inner = inner
+
+-- What is known at the next goal of a conjunction. A conjunct of `&` that has no solution hands on no symbol: those to its right run beside it.
+abbrev pub handed_on : Running → Category → Known → Known → Known
+handed_on Sequential category behind before = behind
+handed_on (Parallel site) category behind before = if is_zero (most_of category) then before else behind
 
 -- Given are the declared types, the modes of each predicate, and the type of each variable.
 module _ (declared : List TypeDef) (modes : ℕ → List ModeDecl) (types : ℕ → TypeExpr) where
@@ -78,7 +86,7 @@ module _ (declared : List TypeDef) (modes : ℕ → List ModeDecl) (types : ℕ 
 
     pub graded_goal : Known → Goal → Goal
     graded_goal known (Basic goal) = Basic goal
-    graded_goal known (Conjunction running goals) = Conjunction running (graded_all known goals)
+    graded_goal known (Conjunction running goals) = Conjunction running (graded_all running known goals)
     graded_goal known (Disjunction goals) = Disjunction (graded_each known goals)
     graded_goal known (Switch variable arms) = Switch variable (graded_arms known variable arms)
     graded_goal known (Conditional condition then_part else_part) =
@@ -86,10 +94,11 @@ module _ (declared : List TypeDef) (modes : ℕ → List ModeDecl) (types : ℕ 
     graded_goal known (Negation goal) = Negation (graded known goal)
     graded_goal known (Quantified own goal) = Quantified own (graded known goal)
 
-    -- goals one after the other
-    pub graded_all : Known → Nodes → Nodes
-    graded_all known no_nodes = no_nodes
-    graded_all known (more_nodes first rest) = more_nodes (graded known first) (graded_all (known_behind first known) rest)
+    -- goals one after the other, or beside one another
+    pub graded_all : Running → Known → Nodes → Nodes
+    graded_all running known no_nodes = no_nodes
+    graded_all running known (more_nodes first rest) =
+        more_nodes (graded known first) (graded_all running (handed_on running (category_at (graded known first)) (known_behind first known) known) rest)
 
     -- goals of which each starts from what is known before all
     pub graded_each : Known → Nodes → Nodes

@@ -12,10 +12,11 @@ use Rattle.merc_goal_tree.specs.declared.goal.Symbol.{Symbol}
 use Rattle.merc_goal_tree.specs.declared.goal.Symbol.TheVariants.{Constructor, Integer, Text}
 use Rattle.merc_graded_tree.specs.declared.basic.BasicGoal.{BasicGoal}
 use Rattle.merc_graded_tree.specs.declared.basic.BasicGoal.TheVariants.{True, Fail, Assign, Test, Build, Split, Arithmetic, Compare, Raise, Call, Wait, Signal}
+use Rattle.merc_graded_tree.specs.declared.entries.Running.{Running}
 use Rattle.merc_graded_tree.specs.declared.entries.Running.TheVariants.{Sequential, Parallel}
-use Rattle.merc_graded_tree.specs.Nodes.{Node, node, Goal, Basic, Conjunction, Disjunction, Switch, Conditional, Negation, Quantified, nodes_of, no_arms, more_arms}
+use Rattle.merc_graded_tree.specs.Nodes.{Node, node, Goal, Basic, Conjunction, Disjunction, Switch, Conditional, Negation, Quantified, nodes_of, list_of, no_arms, more_arms}
 use Rattle.merc_grading.specs.Known.{same_symbol, symbols_of_type, are_complete, is_single, known_behind_basic}
-use Rattle.merc_grading.specs.Grading.{basic_category, category_at, category_from, graded}
+use Rattle.merc_grading.specs.Grading.{basic_category, category_at, categories, handed_on, category_from, graded, graded_all}
 
 abbrev pub at : ℕ → Span
 at byte = record { first = byte; past = byte + 1; line = 1 }
@@ -227,6 +228,45 @@ last_in_front = refl
 
 beside : gives (of (Conjunction (Parallel None) (nodes_of (basic (Build c red []) ∷ is_red c ∷ [])))) ≡ Det
 beside = refl
+
+-- `( error(..), C = red ) & C = red`: the second runs beside the first, which has no solution, so that C may be green there
+
+abbrev parts_of : Running → List Node → List Category
+parts_of running goals = categories (list_of (graded_all declared modes types running [] (nodes_of goals)))
+
+abbrev red_behind : BasicGoal → Node
+red_behind goal = both (basic goal ∷ basic (Build c red []) ∷ [])
+
+beside_error : parts_of (Parallel None) (red_behind (Raise 6) ∷ is_red c ∷ []) ≡ Erroneous ∷ Semidet ∷ []
+beside_error = refl
+
+beside_error_is_not_det : parts_of (Parallel None) (red_behind (Raise 6) ∷ is_red c ∷ []) ≡ Erroneous ∷ Det ∷ [] → ⊥
+beside_error_is_not_det wrong = cc
+
+beside_failure : parts_of (Parallel None) (red_behind Fail ∷ is_red c ∷ []) ≡ Failure ∷ Semidet ∷ []
+beside_failure = refl
+
+-- one that has a solution hands on what it tells
+beside_answer : parts_of (Parallel None) (red_behind True ∷ is_red c ∷ []) ≡ Det ∷ Det ∷ []
+beside_answer = refl
+
+-- what was known before one that has no solution stays known
+beside_both : parts_of (Parallel None) (basic (Build c red []) ∷ both (basic Fail ∷ is_green c ∷ []) ∷ is_red c ∷ []) ≡ Det ∷ Failure ∷ Det ∷ []
+beside_both = refl
+
+-- `( error(..), C = red ), C = red`: no goal runs behind an error
+behind_error : parts_of Sequential (red_behind (Raise 6) ∷ is_red c ∷ []) ≡ Erroneous ∷ Det ∷ []
+behind_error = refl
+
+-- behind the whole `&` all is known
+behind_parallel : parts_of Sequential (of (Conjunction (Parallel None) (nodes_of (red_behind (Raise 6) ∷ []))) ∷ is_red c ∷ []) ≡ Erroneous ∷ Det ∷ []
+behind_parallel = refl
+
+handed_on_beside : handed_on (Parallel None) Failure ((c, green) ∷ (c, red) ∷ []) ((c, red) ∷ []) ≡ (c, red) ∷ []
+handed_on_beside = refl
+
+handed_on_in_turn : handed_on Sequential Failure ((c, green) ∷ (c, red) ∷ []) ((c, red) ∷ []) ≡ (c, green) ∷ (c, red) ∷ []
+handed_on_in_turn = refl
 
 out_of_conjunction : gives (both (both (basic (Build c red []) ∷ []) ∷ is_red c ∷ [])) ≡ Det
 out_of_conjunction = refl

@@ -60,6 +60,11 @@ looser P Q c t f law = record { goes = each_map P Q t f law.goes; no_answer = la
 pub zero_law : (P Q : Env → Type 0) (c : Category) (t : Trace) → Lawful P c t → most_of c ≡ Zero → Lawful Q c t
 zero_law P Q c t law z = record { goes = never_each Q t (law.no_answer z); no_answer = law.no_answer; some_answer = law.some_answer }
 
+-- each answer is so, and this holds besides where there may be an answer
+pub goes_besides : (P : Env → Type 0) (A : Type 0) (c : Category) (t : Trace) → Lawful P c t → A ⊎ (most_of c ≡ Zero) → Each (λ env. P env × A) t
+goes_besides P A c t law (inl a) = each_map P (λ env. P env × A) t (λ env p. (p, a)) law.goes
+goes_besides P A c t law (inr z) = never_each (λ env. P env × A) t (law.no_answer z)
+
 if_answered : (P Q : Env → Type 0) (a b c : Category) (f : Env → Trace) (t : Trace) (z : Bool) → z ≡ can_fail_of a → Has Any t → Lawful P a t → ((env : Env) → P env → Lawful Q b (f env))
     → Lawful Q (if z then decided a b c else then_category a b) (each f t)
 if_answered P Q a b c f t false e h condition then_part = then_law P Q a b f t condition then_part

@@ -9,6 +9,8 @@ use Rattle.merc_tree.specs.declared.declarations.ModeDecl.{ModeDecl}
 use Rattle.merc_tree.specs.declared.declarations.TypeDef.{TypeDef}
 use Rattle.merc_graded_tree.specs.declared.basic.BasicGoal.{BasicGoal}
 use Rattle.merc_graded_tree.specs.declared.basic.BasicGoal.TheVariants.{True, Fail, Assign, Test, Build, Split, Arithmetic, Compare, Raise, Call, Wait, Signal}
+use Rattle.merc_graded_tree.specs.declared.entries.Running.{Running}
+use Rattle.merc_graded_tree.specs.declared.entries.Running.TheVariants.{Sequential, Parallel}
 use Rattle.merc_graded_tree.specs.Nodes.{Node, node, Goal, Basic, Conjunction, Disjunction, Switch, Conditional, Negation, Quantified, Nodes, no_nodes, more_nodes, Arms, no_arms, more_arms, list_of}
 use Rattle.merc_graded_tree.specs.Roots.{symbols_of, bodies_of}
 use Rattle.merc_order.specs.Bound.{Bound}
@@ -16,15 +18,25 @@ use Rattle.merc_order.specs.CallModes.{may_answer, can_succeed}
 use Rattle.merc_order_laws.specs.Bindings.{Variables}
 use Rattle.merc_order_laws.specs.GoodTree.{GoodProcedure, basic_ends, node_ends, goal_ends, all_nodes_end, some_node_ends, some_arm_ends, GoodBasic, GoodNode, GoodGoal, GoodNodes, GoodDisjuncts, GoodArms}
 use Rattle.merc_order_laws.proofs.Facts.{clash}
-use Rattle.merc_grading.specs.Categories.{conjunction_category, disjunction_category, arms_category, greater_most}
+use Rattle.merc_grading.specs.Categories.{conjunction_category, disjunction_category, arms_category, greater_most, is_zero}
 use Rattle.merc_grading.specs.Known.{symbols_of_type, are_complete, Known, known_behind, known_behind_goal, known_behind_all}
-use Rattle.merc_grading.specs.Grading.{declared_in, given, category_at, categories, basic_category, rule, with_category, graded, graded_goal, graded_all, graded_each, graded_arms}
+use Rattle.merc_grading.specs.Grading.{declared_in, given, category_at, categories, handed_on, basic_category, rule, with_category, graded, graded_goal, graded_all, graded_each, graded_arms}
 use Rattle.merc_program_laws.proofs.Values.{or_not_left, or_not_right}
 use Rattle.merc_program_laws.proofs.Maxima.{most_is, fails_or, capped_is_zero, then_is_zero, or_is_zero, greater_is_zero, conditional_is_zero}
 
 and_false : (a b : Bool) → (a && b) ≡ false → (a ≡ false) ⊎ (b ≡ false)
 and_false true b h = inr h
 and_false false b h = inl refl
+
+-- a goal of a conjunction hands on all that it tells, or it has no solution
+pub handed_or_zero : (running : Running) (c : Category) (behind before : Known) → (handed_on running c behind before ≡ behind) ⊎ (most_of c ≡ Zero)
+handed_or_zero Sequential c behind before = inl refl
+handed_or_zero (Parallel site) c behind before = by (most_of c)
+  where
+    by : (m : Most) → ((if is_zero m then before else behind) ≡ behind) ⊎ (m ≡ Zero)
+    by Zero = inr refl
+    by One = inl refl
+    by Many = inl refl
 
 -- Given are the declared types, the modes of each predicate, and the type of each variable.
 module _ (declared : List TypeDef) (modes : ℕ → List ModeDecl) (types : ℕ → TypeExpr) where
@@ -35,16 +47,16 @@ module _ (declared : List TypeDef) (modes : ℕ → List ModeDecl) (types : ℕ 
 
     pub GradedGoal : Known → Goal → Type 0
     GradedGoal seen (Basic goal) = Unit {0}
-    GradedGoal seen (Conjunction running goals) = GradedAll seen goals
+    GradedGoal seen (Conjunction running goals) = GradedAll running seen goals
     GradedGoal seen (Disjunction goals) = GradedEach seen goals
     GradedGoal seen (Switch variable arms) = GradedArms seen variable arms
     GradedGoal seen (Conditional condition then_part else_part) = Graded seen condition × Graded (known_behind condition seen) then_part × Graded seen else_part
     GradedGoal seen (Negation goal) = Graded seen goal
     GradedGoal seen (Quantified own goal) = Graded seen goal
 
-    pub GradedAll : Known → Nodes → Type 0
-    GradedAll seen no_nodes = Unit {0}
-    GradedAll seen (more_nodes first rest) = Graded seen first × GradedAll (known_behind first seen) rest
+    pub GradedAll : Running → Known → Nodes → Type 0
+    GradedAll running seen no_nodes = Unit {0}
+    GradedAll running seen (more_nodes first rest) = Graded seen first × GradedAll running (handed_on running (category_at first) (known_behind first seen) seen) rest
 
     pub GradedEach : Known → Nodes → Type 0
     GradedEach seen no_nodes = Unit {0}
@@ -61,17 +73,18 @@ module _ (declared : List TypeDef) (modes : ℕ → List ModeDecl) (types : ℕ 
 
     goal_same_known : (g : Goal) (seen other : Known) → known_behind_goal (graded_goal declared modes types seen g) other ≡ known_behind_goal g other
     goal_same_known (Basic goal) seen other = refl
-    goal_same_known (Conjunction running goals) seen other = all_same_known goals seen other
+    goal_same_known (Conjunction running goals) seen other = all_same_known running goals seen other
     goal_same_known (Disjunction goals) seen other = refl
     goal_same_known (Switch variable arms) seen other = refl
     goal_same_known (Conditional c t e) seen other = refl
     goal_same_known (Negation goal) seen other = refl
     goal_same_known (Quantified own goal) seen other = same_known goal seen other
 
-    all_same_known : (ns : Nodes) (seen other : Known) → known_behind_all (graded_all declared modes types seen ns) other ≡ known_behind_all ns other
-    all_same_known no_nodes seen other = refl
-    all_same_known (more_nodes first rest) seen other =
-        ap (known_behind_all (graded_all declared modes types (known_behind first seen) rest)) (same_known first seen other) ∙ all_same_known rest (known_behind first seen) (known_behind first other)
+    all_same_known : (running : Running) (ns : Nodes) (seen other : Known) → known_behind_all (graded_all declared modes types running seen ns) other ≡ known_behind_all ns other
+    all_same_known running no_nodes seen other = refl
+    all_same_known running (more_nodes first rest) seen other =
+        let next = handed_on running (category_at (graded declared modes types seen first)) (known_behind first seen) seen in
+        ap (known_behind_all (graded_all declared modes types running next rest)) (same_known first seen other) ∙ all_same_known running rest next (known_behind first other)
 
   -- a tree that was given all categories has them
   mutual
@@ -80,7 +93,7 @@ module _ (declared : List TypeDef) (modes : ℕ → List ModeDecl) (types : ℕ 
 
     goal_has : (g : Goal) (seen : Known) → GradedGoal seen (graded_goal declared modes types seen g)
     goal_has (Basic goal) seen = tt
-    goal_has (Conjunction running goals) seen = all_have goals seen
+    goal_has (Conjunction running goals) seen = all_have running goals seen
     goal_has (Disjunction goals) seen = each_has goals seen
     goal_has (Switch variable arms) seen = arms_have arms seen variable
     goal_has (Conditional c t e) seen = (
@@ -91,12 +104,15 @@ module _ (declared : List TypeDef) (modes : ℕ → List ModeDecl) (types : ℕ 
     goal_has (Negation goal) seen = graded_has goal seen
     goal_has (Quantified own goal) seen = graded_has goal seen
 
-    all_have : (ns : Nodes) (seen : Known) → GradedAll seen (graded_all declared modes types seen ns)
-    all_have no_nodes seen = tt
-    all_have (more_nodes first rest) seen = (
-      graded_has first seen,
-      subst (λ (k : Known). GradedAll k (graded_all declared modes types (known_behind first seen) rest)) (sym (same_known first seen seen)) (all_have rest (known_behind first seen)),
-    )
+    all_have : (running : Running) (ns : Nodes) (seen : Known) → GradedAll running seen (graded_all declared modes types running seen ns)
+    all_have running no_nodes seen = tt
+    all_have running (more_nodes first rest) seen =
+        let one = graded declared modes types seen first in
+        let next : Known → Known = λ (behind : Known). handed_on running (category_at one) behind seen in (
+          graded_has first seen,
+          subst (λ (k : Known). GradedAll running (next k) (graded_all declared modes types running (next (known_behind first seen)) rest)) (sym (same_known first seen seen))
+              (all_have running rest (next (known_behind first seen))),
+        )
 
     each_has : (ns : Nodes) (seen : Known) → GradedEach seen (graded_each declared modes types seen ns)
     each_has no_nodes seen = tt
@@ -139,7 +155,7 @@ module _ (declared : List TypeDef) (modes : ℕ → List ModeDecl) (types : ℕ 
 
     goal_zero : (g : Goal) (seen : Known) (out : Variables) (b : Bound) (outs : List ℕ) → GoodGoal modes out b outs g → GradedGoal seen g → goal_ends modes g ≡ false → most_of (rule declared modes types seen g) ≡ Zero
     goal_zero (Basic goal) seen out b outs good has h = basic_zero goal seen out b outs good h
-    goal_zero (Conjunction running goals) seen out b outs good has h = all_zero goals seen out b good.0 has h
+    goal_zero (Conjunction running goals) seen out b outs good has h = all_zero running goals seen out b good.0 has h
     goal_zero (Disjunction goals) seen out b outs good has h = each_zero goals seen out b good.0 has h
     goal_zero (Switch x arms) seen out b outs good has h =
         most_is ((if are_complete (symbols_of_type declared (types x)) (symbols_of arms) then false else true) || can_fail_of (arms_category (categories (bodies_of arms)))) (most_of (arms_category (categories (bodies_of arms))))
@@ -154,13 +170,13 @@ module _ (declared : List TypeDef) (modes : ℕ → List ModeDecl) (types : ℕ 
     goal_zero (Negation goal) seen out b outs good has h = clash refl h
     goal_zero (Quantified own goal) seen out b outs good has h = ends_zero goal seen out b good.0 has h
 
-    all_zero : (ns : Nodes) (seen : Known) (out : Variables) (b : Bound) → GoodNodes modes out b ns → GradedAll seen ns → all_nodes_end modes ns ≡ false → most_of (conjunction_category (categories (list_of ns))) ≡ Zero
-    all_zero no_nodes seen out b good has h = clash refl h
-    all_zero (more_nodes first rest) seen out b good has h =
+    all_zero : (running : Running) (ns : Nodes) (seen : Known) (out : Variables) (b : Bound) → GoodNodes modes out b ns → GradedAll running seen ns → all_nodes_end modes ns ≡ false → most_of (conjunction_category (categories (list_of ns))) ≡ Zero
+    all_zero running no_nodes seen out b good has h = clash refl h
+    all_zero running (more_nodes first rest) seen out b good has h =
         then_is_zero (category_at first) (conjunction_category (categories (list_of rest)))
         (elim (and_false (node_ends modes first) (all_nodes_end modes rest) h) as (λ _. (most_of (category_at first) ≡ Zero) ⊎ (most_of (conjunction_category (categories (list_of rest))) ≡ Zero)) [
           | inl p ↦ inl (ends_zero first seen _ b good.0 has.0 p)
-          | inr p ↦ inr (all_zero rest (known_behind first seen) _ _ good.1 has.1 p)
+          | inr p ↦ inr (all_zero running rest (handed_on running (category_at first) (known_behind first seen) seen) _ _ good.1 has.1 p)
         ])
 
     each_zero : (ns : Nodes) (seen : Known) (out : Variables) (b : Bound) → GoodDisjuncts modes out b ns → GradedEach seen ns → some_node_ends modes ns ≡ false → most_of (disjunction_category (categories (list_of ns))) ≡ Zero

@@ -5,6 +5,7 @@ use Rattle.merc_tree.specs.Types.{TypeExpr}
 use Rattle.merc_tree.specs.declared.declarations.ModeDecl.{ModeDecl}
 use Rattle.merc_tree.specs.declared.declarations.TypeDef.{TypeDef}
 use Rattle.merc_goal_tree.specs.declared.goal.Symbol.{Symbol}
+use Rattle.merc_graded_tree.specs.declared.entries.Running.{Running}
 use Rattle.merc_graded_tree.specs.Nodes.{Node, node, Goal, Basic, Conjunction, Disjunction, Switch, Conditional, Negation, Quantified, Nodes, no_nodes, more_nodes, Arms, no_arms, more_arms, outputs_of}
 use Rattle.merc_graded_tree.specs.Roots.{symbols_of}
 use Rattle.merc_graded_tree.specs.Variables.{in_goal, in_node, in_nodes}
@@ -16,19 +17,24 @@ use Rattle.merc_order_laws.specs.GoodTree.{node_ends, GoodNode, GoodGoal, GoodNo
 use Rattle.merc_program_laws.specs.Guarding.{Guards, GuardsGoal, OneGuards, EachGuards, EachArmGuards, HasGuards, GoalHasGuards, AllHaveGuards, ArmsHaveGuards}
 use Rattle.merc_program_laws.proofs.Sights.{Sight, sight, same_sight, decided, negated, owned, joined, in_front, same_behind}
 use Rattle.merc_program_laws.proofs.BeginningGuards.{either}
-use Rattle.merc_program_laws.proofs.GradedSights.{graded_outputs, graded_ends, in_graded, in_graded_goal, in_graded_all, in_graded_each}
+use Rattle.merc_program_laws.proofs.GradedSights.{next_known, graded_outputs, graded_ends, in_graded, in_graded_goal, in_graded_all, in_graded_each}
 
 module _ (declared : List TypeDef) (types : ℕ → TypeExpr) (modes : ℕ → List ModeDecl) where
   abbrev with_all : Known → Node → Node
   with_all seen m = graded declared modes types seen m
 
+  -- what is known at the goal of a conjunction behind this one
+  abbrev next : Running → Known → Node → Known
+  next running seen m = next_known declared types modes running seen m
+
   graded_sight : (seen : Known) (m : Node) → sight modes (with_all seen m) ≡ sight modes m
   graded_sight seen m = same_sight modes (with_all seen m) m (graded_ends declared types modes seen m) (graded_outputs declared types modes seen m) (in_graded declared types modes seen m)
 
-  behind_graded : (seen : Known) (ms : Nodes) (bound : Bound) → behind_nodes bound (graded_all declared modes types seen ms) ≡ behind_nodes bound ms
-  behind_graded seen no_nodes bound = refl
-  behind_graded seen (more_nodes m ms) bound =
-      same_behind modes bound m (with_all seen m) ms (graded_all declared modes types (known_behind m seen) ms) (graded_outputs declared types modes seen m) (behind_graded (known_behind m seen) ms (with bound (among (outputs_of m))))
+  behind_graded : (running : Running) (seen : Known) (ms : Nodes) (bound : Bound) → behind_nodes bound (graded_all declared modes types running seen ms) ≡ behind_nodes bound ms
+  behind_graded running seen no_nodes bound = refl
+  behind_graded running seen (more_nodes m ms) bound =
+      same_behind modes bound m (with_all seen m) ms (graded_all declared modes types running (next running seen m) ms) (graded_outputs declared types modes seen m)
+      (behind_graded running (next running seen m) ms (with bound (among (outputs_of m))))
 
   -- an arm binds as before
   arm_binds : (seen : Known) (m : Node) (outside whole : Variables) (bound : Bound) (outs : List ℕ) → ArmBinds (node_ends modes m) outside whole bound outs (with bound (among (outputs_of m)))
@@ -52,7 +58,8 @@ module _ (declared : List TypeDef) (types : ℕ → TypeExpr) (modes : ℕ → L
     graded_goal_good : (g : Goal) (seen : Known) (outside : Variables) (bound : Bound) (outs : List ℕ) → GoodGoal modes outside bound outs g → GoodGoal modes outside bound outs (graded_goal declared modes types seen g)
     graded_goal_good (Basic g) seen outside bound outs good = good
     graded_goal_good (Conjunction running ms) seen outside bound outs good =
-        joined modes outside bound outs running ms (graded_all declared modes types seen ms) (in_graded_all declared types modes seen ms) (behind_graded seen ms bound) good (all_good ms seen outside bound good.0)
+        joined modes outside bound outs running ms (graded_all declared modes types running seen ms) (in_graded_all declared types modes running seen ms) (behind_graded running seen ms bound) good
+        (all_good running ms seen outside bound good.0)
     graded_goal_good (Disjunction ms) seen outside bound outs good = (
       each_good ms seen outside bound good.0,
       subst (λ (i : Variables). DisjunctsBind modes outside i bound outs (graded_each declared modes types seen ms)) (sym (fun_ext (in_graded_each declared types modes seen ms))) (each_binds seen ms outside (in_nodes ms) bound outs good.1),
@@ -72,11 +79,12 @@ module _ (declared : List TypeDef) (types : ℕ → TypeExpr) (modes : ℕ → L
     graded_goal_good (Negation m) seen outside bound outs good = negated modes outside bound outs m (with_all seen m) (graded_sight seen m) good (graded_good m seen outside bound good.0)
     graded_goal_good (Quantified own m) seen outside bound outs good = owned modes outside bound outs own m (with_all seen m) (graded_sight seen m) good (graded_good m seen outside bound good.0)
 
-    all_good : (ms : Nodes) (seen : Known) (outside : Variables) (bound : Bound) → GoodNodes modes outside bound ms → GoodNodes modes outside bound (graded_all declared modes types seen ms)
-    all_good no_nodes seen outside bound good = tt
-    all_good (more_nodes m ms) seen outside bound good =
-        in_front modes outside bound m (with_all seen m) ms (graded_all declared modes types (known_behind m seen) ms) (graded_sight seen m) (in_graded_all declared types modes (known_behind m seen) ms)
-        (graded_good m seen (with outside (in_nodes ms)) bound good.0) (all_good ms (known_behind m seen) (with outside (in_node m)) (with bound (among (outputs_of m))) good.1)
+    all_good : (running : Running) (ms : Nodes) (seen : Known) (outside : Variables) (bound : Bound) → GoodNodes modes outside bound ms → GoodNodes modes outside bound (graded_all declared modes types running seen ms)
+    all_good running no_nodes seen outside bound good = tt
+    all_good running (more_nodes m ms) seen outside bound good =
+        let later = next running seen m in
+        in_front modes outside bound m (with_all seen m) ms (graded_all declared modes types running later ms) (graded_sight seen m) (in_graded_all declared types modes running later ms)
+        (graded_good m seen (with outside (in_nodes ms)) bound good.0) (all_good running ms later (with outside (in_node m)) (with bound (among (outputs_of m))) good.1)
 
     each_good : (ms : Nodes) (seen : Known) (outside : Variables) (bound : Bound) → GoodDisjuncts modes outside bound ms → GoodDisjuncts modes outside bound (graded_each declared modes types seen ms)
     each_good no_nodes seen outside bound good = tt
@@ -98,16 +106,16 @@ module _ (declared : List TypeDef) (types : ℕ → TypeExpr) (modes : ℕ → L
 
       graded_goal_guards : (g : Goal) (seen : Known) → GuardsGoal x symbol g → GuardsGoal x symbol (graded_goal declared modes types seen g)
       graded_goal_guards (Basic g) seen h = h
-      graded_goal_guards (Conjunction running ms) seen h = one_guards ms seen h
+      graded_goal_guards (Conjunction running ms) seen h = one_guards running ms seen h
       graded_goal_guards (Disjunction ms) seen h = each_guards ms seen h
       graded_goal_guards (Switch y arms) seen h = arms_guard arms y seen h
       graded_goal_guards (Conditional c t e) seen h = absurd h
       graded_goal_guards (Negation m) seen h = absurd h
       graded_goal_guards (Quantified own m) seen h = absurd h
 
-      one_guards : (ms : Nodes) (seen : Known) → OneGuards x symbol ms → OneGuards x symbol (graded_all declared modes types seen ms)
-      one_guards no_nodes seen h = absurd h
-      one_guards (more_nodes m ms) seen h = either (graded_guards m seen) (one_guards ms (known_behind m seen)) h
+      one_guards : (running : Running) (ms : Nodes) (seen : Known) → OneGuards x symbol ms → OneGuards x symbol (graded_all declared modes types running seen ms)
+      one_guards running no_nodes seen h = absurd h
+      one_guards running (more_nodes m ms) seen h = either (graded_guards m seen) (one_guards running ms (next running seen m)) h
 
       each_guards : (ms : Nodes) (seen : Known) → EachGuards x symbol ms → EachGuards x symbol (graded_each declared modes types seen ms)
       each_guards no_nodes seen h = tt
@@ -127,16 +135,16 @@ module _ (declared : List TypeDef) (types : ℕ → TypeExpr) (modes : ℕ → L
 
     graded_goal_has : (g : Goal) (seen : Known) → GoalHasGuards g → GoalHasGuards (graded_goal declared modes types seen g)
     graded_goal_has (Basic g) seen h = tt
-    graded_goal_has (Conjunction running ms) seen h = all_have ms seen h
+    graded_goal_has (Conjunction running ms) seen h = all_have running ms seen h
     graded_goal_has (Disjunction ms) seen h = each_has ms seen h
     graded_goal_has (Switch x arms) seen h = arms_have arms x seen h
     graded_goal_has (Conditional c t e) seen h = (graded_has c seen h.0, graded_has t (known_behind c seen) h.1, graded_has e seen h.2)
     graded_goal_has (Negation m) seen h = graded_has m seen h
     graded_goal_has (Quantified own m) seen h = graded_has m seen h
 
-    all_have : (ms : Nodes) (seen : Known) → AllHaveGuards ms → AllHaveGuards (graded_all declared modes types seen ms)
-    all_have no_nodes seen h = tt
-    all_have (more_nodes m ms) seen h = (graded_has m seen h.0, all_have ms (known_behind m seen) h.1)
+    all_have : (running : Running) (ms : Nodes) (seen : Known) → AllHaveGuards ms → AllHaveGuards (graded_all declared modes types running seen ms)
+    all_have running no_nodes seen h = tt
+    all_have running (more_nodes m ms) seen h = (graded_has m seen h.0, all_have running ms (next running seen m) h.1)
 
     each_has : (ms : Nodes) (seen : Known) → AllHaveGuards ms → AllHaveGuards (graded_each declared modes types seen ms)
     each_has no_nodes seen h = tt

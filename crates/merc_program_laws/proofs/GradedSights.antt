@@ -6,10 +6,11 @@ use Rattle.merc_tree.specs.declared.declarations.ModeDecl.{ModeDecl}
 use Rattle.merc_tree.specs.declared.declarations.TypeDef.{TypeDef}
 use Rattle.merc_tree.specs.declared.declarations.Module.{Module}
 use Rattle.merc_graded_tree.specs.declared.basic.BasicGoal.{BasicGoal}
+use Rattle.merc_graded_tree.specs.declared.entries.Running.{Running}
 use Rattle.merc_graded_tree.specs.Nodes.{Node, node, Goal, Basic, Conjunction, Disjunction, Switch, Conditional, Negation, Quantified, Nodes, no_nodes, more_nodes, Arms, no_arms, more_arms, outputs_of}
 use Rattle.merc_graded_tree.specs.Variables.{in_goal, in_node, in_nodes, in_arms}
 use Rattle.merc_grading.specs.Known.{Known, known_behind}
-use Rattle.merc_grading.specs.Grading.{graded, graded_goal, graded_all, graded_each, graded_arms}
+use Rattle.merc_grading.specs.Grading.{category_at, handed_on, graded, graded_goal, graded_all, graded_each, graded_arms}
 use Rattle.merc_type_check.specs.Typing.{IsTypedGoal}
 use Rattle.merc_order_laws.specs.GoodTree.{node_ends, goal_ends, all_nodes_end, some_node_ends, some_arm_ends}
 use Rattle.merc_order_laws.specs.WrittenGoals.{basic_goals, basic_goals_in, all_basic_goals, arm_basic_goals, written_goal}
@@ -24,6 +25,10 @@ module _ (declared : List TypeDef) (types : ℕ → TypeExpr) (modes : ℕ → L
   abbrev with_all : Known → Node → Node
   with_all seen m = graded declared modes types seen m
 
+  -- what is known at the goal of a conjunction behind this one
+  abbrev pub next_known : Running → Known → Node → Known
+  next_known running seen m = handed_on running (category_at (with_all seen m)) (known_behind m seen) seen
+
   pub graded_outputs : (seen : Known) (m : Node) → outputs_of (with_all seen m) ≡ outputs_of m
   graded_outputs seen (node g outs c at) = refl
 
@@ -33,7 +38,7 @@ module _ (declared : List TypeDef) (types : ℕ → TypeExpr) (modes : ℕ → L
 
     pub in_graded_goal : (seen : Known) (g : Goal) (v : ℕ) → in_goal (graded_goal declared modes types seen g) v ≡ in_goal g v
     in_graded_goal seen (Basic g) v = refl
-    in_graded_goal seen (Conjunction running ms) v = in_graded_all seen ms v
+    in_graded_goal seen (Conjunction running ms) v = in_graded_all running seen ms v
     in_graded_goal seen (Disjunction ms) v = in_graded_each seen ms v
     in_graded_goal seen (Switch x arms) v = ap (λ b. (v == x) || b) (in_graded_arms seen x arms v)
     in_graded_goal seen (Conditional c t e) v =
@@ -43,10 +48,11 @@ module _ (declared : List TypeDef) (types : ℕ → TypeExpr) (modes : ℕ → L
     in_graded_goal seen (Negation m) v = in_graded seen m v
     in_graded_goal seen (Quantified own m) v = in_graded seen m v
 
-    pub in_graded_all : (seen : Known) (ms : Nodes) (v : ℕ) → in_nodes (graded_all declared modes types seen ms) v ≡ in_nodes ms v
-    in_graded_all seen no_nodes v = refl
-    in_graded_all seen (more_nodes m ms) v =
-        or_same (in_node (with_all seen m) v) (in_nodes (graded_all declared modes types (known_behind m seen) ms) v) (in_node m v) (in_nodes ms v) (in_graded seen m v) (in_graded_all (known_behind m seen) ms v)
+    pub in_graded_all : (running : Running) (seen : Known) (ms : Nodes) (v : ℕ) → in_nodes (graded_all declared modes types running seen ms) v ≡ in_nodes ms v
+    in_graded_all running seen no_nodes v = refl
+    in_graded_all running seen (more_nodes m ms) v =
+        let next = next_known running seen m in
+        or_same (in_node (with_all seen m) v) (in_nodes (graded_all declared modes types running next ms) v) (in_node m v) (in_nodes ms v) (in_graded seen m v) (in_graded_all running next ms v)
 
     pub in_graded_each : (seen : Known) (ms : Nodes) (v : ℕ) → in_nodes (graded_each declared modes types seen ms) v ≡ in_nodes ms v
     in_graded_each seen no_nodes v = refl
@@ -64,7 +70,7 @@ module _ (declared : List TypeDef) (types : ℕ → TypeExpr) (modes : ℕ → L
 
     graded_goal_ends : (seen : Known) (g : Goal) → goal_ends modes (graded_goal declared modes types seen g) ≡ goal_ends modes g
     graded_goal_ends seen (Basic g) = refl
-    graded_goal_ends seen (Conjunction running ms) = graded_all_end seen ms
+    graded_goal_ends seen (Conjunction running ms) = graded_all_end running seen ms
     graded_goal_ends seen (Disjunction ms) = graded_some_ends seen ms
     graded_goal_ends seen (Switch x arms) = graded_arms_end seen x arms
     graded_goal_ends seen (Conditional c t e) =
@@ -74,11 +80,12 @@ module _ (declared : List TypeDef) (types : ℕ → TypeExpr) (modes : ℕ → L
     graded_goal_ends seen (Negation m) = refl
     graded_goal_ends seen (Quantified own m) = graded_ends seen m
 
-    graded_all_end : (seen : Known) (ms : Nodes) → all_nodes_end modes (graded_all declared modes types seen ms) ≡ all_nodes_end modes ms
-    graded_all_end seen no_nodes = refl
-    graded_all_end seen (more_nodes m ms) =
-        and_same (node_ends modes (with_all seen m)) (all_nodes_end modes (graded_all declared modes types (known_behind m seen) ms)) (node_ends modes m) (all_nodes_end modes ms)
-        (graded_ends seen m) (graded_all_end (known_behind m seen) ms)
+    graded_all_end : (running : Running) (seen : Known) (ms : Nodes) → all_nodes_end modes (graded_all declared modes types running seen ms) ≡ all_nodes_end modes ms
+    graded_all_end running seen no_nodes = refl
+    graded_all_end running seen (more_nodes m ms) =
+        let next = next_known running seen m in
+        and_same (node_ends modes (with_all seen m)) (all_nodes_end modes (graded_all declared modes types running next ms)) (node_ends modes m) (all_nodes_end modes ms)
+        (graded_ends seen m) (graded_all_end running next ms)
 
     graded_some_ends : (seen : Known) (ms : Nodes) → some_node_ends modes (graded_each declared modes types seen ms) ≡ some_node_ends modes ms
     graded_some_ends seen no_nodes = refl
@@ -97,7 +104,7 @@ module _ (declared : List TypeDef) (types : ℕ → TypeExpr) (modes : ℕ → L
 
     graded_goal_basics : (seen : Known) (g : Goal) → basic_goals_in (graded_goal declared modes types seen g) ≡ basic_goals_in g
     graded_goal_basics seen (Basic g) = refl
-    graded_goal_basics seen (Conjunction running ms) = graded_all_basics seen ms
+    graded_goal_basics seen (Conjunction running ms) = graded_all_basics running seen ms
     graded_goal_basics seen (Disjunction ms) = graded_each_basics seen ms
     graded_goal_basics seen (Switch x arms) = graded_arm_basics seen x arms
     graded_goal_basics seen (Conditional c t e) =
@@ -107,10 +114,11 @@ module _ (declared : List TypeDef) (types : ℕ → TypeExpr) (modes : ℕ → L
     graded_goal_basics seen (Negation m) = graded_basics seen m
     graded_goal_basics seen (Quantified own m) = graded_basics seen m
 
-    graded_all_basics : (seen : Known) (ms : Nodes) → all_basic_goals (graded_all declared modes types seen ms) ≡ all_basic_goals ms
-    graded_all_basics seen no_nodes = refl
-    graded_all_basics seen (more_nodes m ms) =
-        both (basic_goals (with_all seen m)) (all_basic_goals (graded_all declared modes types (known_behind m seen) ms)) (basic_goals m) (all_basic_goals ms) (graded_basics seen m) (graded_all_basics (known_behind m seen) ms)
+    graded_all_basics : (running : Running) (seen : Known) (ms : Nodes) → all_basic_goals (graded_all declared modes types running seen ms) ≡ all_basic_goals ms
+    graded_all_basics running seen no_nodes = refl
+    graded_all_basics running seen (more_nodes m ms) =
+        let next = next_known running seen m in
+        both (basic_goals (with_all seen m)) (all_basic_goals (graded_all declared modes types running next ms)) (basic_goals m) (all_basic_goals ms) (graded_basics seen m) (graded_all_basics running next ms)
 
     graded_each_basics : (seen : Known) (ms : Nodes) → all_basic_goals (graded_each declared modes types seen ms) ≡ all_basic_goals ms
     graded_each_basics seen no_nodes = refl

@@ -7,11 +7,12 @@ use Rattle.merc_tree.specs.Types.{TypeExpr}
 use Rattle.merc_tree.specs.declared.declarations.ModeDecl.{ModeDecl}
 use Rattle.merc_tree.specs.declared.declarations.TypeDef.{TypeDef}
 use Rattle.merc_goal_tree.specs.declared.goal.Symbol.{Symbol}
+use Rattle.merc_graded_tree.specs.declared.entries.Running.{Running}
 use Rattle.merc_graded_tree.specs.declared.entries.Running.TheVariants.{Sequential, Parallel}
 use Rattle.merc_graded_tree.specs.Nodes.{Node, node, Goal, Basic, Conjunction, Disjunction, Switch, Conditional, Negation, Quantified, Nodes, no_nodes, more_nodes, Arms, no_arms, more_arms, nodes_of, list_of}
 use Rattle.merc_order.specs.Bound.{Bound}
 use Rattle.merc_grading.specs.Faults.{parallel_faults, goal_faults, all_faults, arm_faults}
-use Rattle.merc_grading.specs.Grading.{graded, graded_goal, graded_all, graded_each, graded_arms}
+use Rattle.merc_grading.specs.Grading.{category_at, handed_on, graded, graded_goal, graded_all, graded_each, graded_arms}
 use Rattle.merc_grading.specs.Known.{Known, known_behind, same_symbol}
 use Rattle.merc_grading.specs.Switches.{split_variables, symbol_at, Group, of_symbol, without_symbol, with_disjunct, grouped, choice, arm_body, arms_of_groups, switched, regrouped, bound_behind, find, find_goal, find_all, find_each}
 
@@ -77,7 +78,7 @@ module _ (declared : List TypeDef) (types : ℕ → TypeExpr) where
 
       graded_goal_none : (known : Known) (goal : Goal) → HasNoParallelIn goal → HasNoParallelIn (graded_goal declared modes types known goal)
       graded_goal_none known (Basic goal) none = none
-      graded_goal_none known (Conjunction Sequential goals) none = graded_all_none known goals none
+      graded_goal_none known (Conjunction Sequential goals) none = graded_all_none Sequential known goals none
       graded_goal_none known (Conjunction (Parallel site) goals) none = none
       graded_goal_none known (Disjunction goals) none = graded_each_none known goals none
       graded_goal_none known (Switch variable arms) none = graded_arms_none known variable arms none
@@ -86,9 +87,12 @@ module _ (declared : List TypeDef) (types : ℕ → TypeExpr) where
       graded_goal_none known (Negation goal) none = graded_has_none known goal none
       graded_goal_none known (Quantified own goal) none = graded_has_none known goal none
 
-      graded_all_none : (known : Known) (goals : Nodes) → HaveNoParallel goals → HaveNoParallel (graded_all declared modes types known goals)
-      graded_all_none known no_nodes none = tt
-      graded_all_none known (more_nodes first rest) none = (graded_has_none known first none.0, graded_all_none (known_behind first known) rest none.1)
+      graded_all_none : (running : Running) (known : Known) (goals : Nodes) → HaveNoParallel goals → HaveNoParallel (graded_all declared modes types running known goals)
+      graded_all_none running known no_nodes none = tt
+      graded_all_none running known (more_nodes first rest) none = (
+        graded_has_none known first none.0,
+        graded_all_none running (handed_on running (category_at (graded declared modes types known first)) (known_behind first known) known) rest none.1,
+      )
 
       graded_each_none : (known : Known) (goals : Nodes) → HaveNoParallel goals → HaveNoParallel (graded_each declared modes types known goals)
       graded_each_none known no_nodes none = tt

@@ -12,6 +12,7 @@ use Rattle.merc_goal_tree.specs.declared.goal.Symbol.{Symbol}
 use Rattle.merc_goal_tree.specs.declared.goal.Symbol.TheVariants.{Constructor}
 use Rattle.merc_graded_tree.specs.declared.basic.BasicGoal.{BasicGoal}
 use Rattle.merc_graded_tree.specs.declared.basic.Procedure.{Procedure}
+use Rattle.merc_graded_tree.specs.declared.entries.Running.{Running}
 use Rattle.merc_graded_tree.specs.Nodes.{Node, node, Goal, Basic, Conjunction, Disjunction, Switch, Conditional, Negation, Quantified, Nodes, no_nodes, more_nodes, Arms, no_arms, more_arms, list_of, outputs_of}
 use Rattle.merc_graded_tree.specs.Roots.{symbols_of, bodies_of}
 use Rattle.merc_graded_tree.specs.Variables.{in_goal, in_node, in_nodes, in_arms}
@@ -25,7 +26,7 @@ use Rattle.merc_order_laws.proofs.Facts.{clash, or_left, or_right, or_cases, eit
 use Rattle.merc_order_laws.proofs.Written.{all_left, all_right}
 use Rattle.merc_grading.specs.Categories.{conjunction_category, disjunction_category, arms_category, conditional_category, greater_most}
 use Rattle.merc_grading.specs.Known.{same_symbol, symbols_of_type, has_symbol, are_complete, Known, known_behind, known_behind_goal, known_behind_all}
-use Rattle.merc_grading.specs.Grading.{given, category_at, categories, rule}
+use Rattle.merc_grading.specs.Grading.{given, category_at, categories, handed_on, rule}
 use Rattle.merc_value.specs.Value.{Value, Con, Values}
 use Rattle.merc_meaning.specs.Trace.{Env, Trace, choose}
 use Rattle.merc_meaning.specs.Values.{count, fields}
@@ -40,7 +41,7 @@ use Rattle.merc_program_laws.proofs.Knowing.{knows_on, knows_more, one_law, none
 use Rattle.merc_program_laws.proofs.Calls.{LawfulCalls, basic_law}
 use Rattle.merc_program_laws.proofs.Maxima.{zero_is, sure_is, fails_or, greater_zero}
 use Rattle.merc_program_laws.proofs.Combining.{cut_law, then_law, or_law, looser, zero_law, if_law, not_law}
-use Rattle.merc_program_laws.proofs.Graded.{Graded, GradedGoal, GradedAll, GradedEach, GradedArms, ends_zero}
+use Rattle.merc_program_laws.proofs.Graded.{Graded, GradedGoal, GradedAll, GradedEach, GradedArms, ends_zero, handed_or_zero}
 
 -- Arms.
 
@@ -231,15 +232,21 @@ module _ (known : Module) (declared : AreGoodTypes known.types) (program : Progr
   abbrev ListLaw : Nodes → Variables → Bound → Known → Env → Type 0
   ListLaw ns out b seen env = Lawful (After out (behind_nodes b ns) (in_nodes ns) (known_behind_all ns seen) env) (conjunction_category (categories (list_of ns))) (all_trace program call ns env)
 
-  list_step : (n : Node) (ns : Nodes) (out : Variables) (b : Bound) (seen : Known) (env : Env) → GoodNodes (modes_of known.preds) out b (more_nodes n ns) → NodeLaw n (with out (in_nodes ns)) b seen env
-      → ((env1 : Env) → After (with out (in_nodes ns)) (with b (among (outputs_of n))) (in_node n) (known_behind n seen) env env1 → ListLaw ns (with out (in_node n)) (with b (among (outputs_of n))) (known_behind n seen) env1)
+  -- What is known at the goals behind the first is all that is known behind it, unless it has no solution.
+  list_step : (n : Node) (ns : Nodes) (out : Variables) (b : Bound) (seen next : Known) (env : Env) → GoodNodes (modes_of known.preds) out b (more_nodes n ns) → NodeLaw n (with out (in_nodes ns)) b seen env
+      → (next ≡ known_behind n seen) ⊎ (most_of (category_at n) ≡ Zero)
+      → ((env1 : Env) → next ≡ known_behind n seen → After (with out (in_nodes ns)) (with b (among (outputs_of n))) (in_node n) (known_behind n seen) env env1
+      → ListLaw ns (with out (in_node n)) (with b (among (outputs_of n))) (known_behind n seen) env1)
       → ListLaw (more_nodes n ns) out b seen env
-  list_step n ns out b seen env good first rest =
+  list_step n ns out b seen next env good first (inl same) rest =
       then_law _ _ (category_at n) (conjunction_category (categories (list_of ns))) (λ env1. all_trace program call ns env1) (node_trace program call n env) first
       (λ env1 goes. looser _ _ (conjunction_category (categories (list_of ns))) (all_trace program call ns env1)
       (λ env2 goes2. two_goes known types i out _ _ _ _ (in_node n) (in_nodes ns) _ _ env env1 env2 (λ x h. or_left (out x) (in_nodes ns x) h) (λ x h. or_left (out x) (in_node n x) h)
       (behind_stays known types i ns _ _ good.1) goes goes2)
-      (rest env1 goes))
+      (rest env1 same goes))
+  list_step n ns out b seen next env good first (inr zero) rest =
+      then_law (λ env1. ⊥) _ (category_at n) (conjunction_category (categories (list_of ns))) (λ env1. all_trace program call ns env1) (node_trace program call n env)
+      (zero_law _ _ (category_at n) (node_trace program call n env) first zero) (λ env1 no. absurd no)
 
   -- If-then-else.
   module _ (c t e : Node) where
@@ -358,7 +365,7 @@ module _ (known : Module) (declared : AreGoodTypes known.types) (program : Progr
     goal_law (Basic g) outs out b seen env good has parts fits =
         basic_law known program call calls types i declared g out b seen outs env (record { good = good; typed = parts.0.0; literal = parts.0.1 }) fits
     goal_law (Conjunction running ns) outs out b seen env good has parts fits =
-        looser _ _ (conjunction_category (categories (list_of ns))) (all_trace program call ns env) (λ env1 goes. goes_to known types i out _ _ _ _ env env1 goes good.1) (list_law ns out b seen env good.0 has parts fits)
+        looser _ _ (conjunction_category (categories (list_of ns))) (all_trace program call ns env) (λ env1 goes. goes_to known types i out _ _ _ _ env env1 goes good.1) (list_law running ns out b seen env good.0 has parts fits)
     goal_law (Disjunction ns) outs out b seen env good has parts fits = each_law ns out b (in_nodes ns) outs seen env (λ x h. h) good.0 good.1 has parts fits
     goal_law (Switch x arms) outs out b seen env good has parts fits =
         let r = value_of known types i out b (in_goal (Switch x arms)) seen env fits x (or_left (x == x) (in_arms arms x) (has_self x)) good.0 in
@@ -379,14 +386,16 @@ module _ (known : Module) (declared : AreGoodTypes known.types) (program : Progr
     goal_law (Quantified own n) outs out b seen env good has parts fits =
         looser _ _ (category_at n) (node_trace program call n env) (λ env1 goes. goes_to known types i out _ _ _ _ env env1 goes good.1) (node_law n out b seen env good.0 has parts fits)
 
-    list_law : (ns : Nodes) (out : Variables) (b : Bound) (seen : Known) (env : Env) → GoodNodes (modes_of known.preds) out b ns → GradedAll known.types (modes_of known.preds) types seen ns → Parts (all_basic_goals ns)
-        → First out b (in_nodes ns) seen env → ListLaw ns out b seen env
-    list_law no_nodes out b seen env good has parts fits = one_law _ env (goes_same known types i out b (in_nodes no_nodes) seen env fits)
-    list_law (more_nodes n ns) out b seen env good has parts fits =
+    list_law : (running : Running) (ns : Nodes) (out : Variables) (b : Bound) (seen : Known) (env : Env) → GoodNodes (modes_of known.preds) out b ns → GradedAll known.types (modes_of known.preds) types running seen ns
+        → Parts (all_basic_goals ns) → First out b (in_nodes ns) seen env → ListLaw ns out b seen env
+    list_law running no_nodes out b seen env good has parts fits = one_law _ env (goes_same known types i out b (in_nodes no_nodes) seen env fits)
+    list_law running (more_nodes n ns) out b seen env good has parts fits =
         let fits_n = narrow known types i out (with out (in_nodes ns)) b (in_node n) (in_nodes (more_nodes n ns)) seen env fits (λ x h. or_left (in_node n x) (in_nodes ns x) h) (λ x h. or_left (out x) (in_nodes ns x) h) in
-        list_step n ns out b seen env good
+        list_step n ns out b seen (handed_on running (category_at n) (known_behind n seen) seen) env good
         (node_law n _ b seen env good.0 has.0 (all_left (IsPart known types i) (basic_goals n) (all_basic_goals ns) parts) fits_n)
-        (λ env1 goes. list_law ns _ (with b (among (outputs_of n))) (known_behind n seen) env1 good.1 has.1 (all_right (IsPart known types i) (basic_goals n) (all_basic_goals ns) parts)
+        (handed_or_zero running (category_at n) (known_behind n seen) seen)
+        (λ env1 same goes. list_law running ns _ (with b (among (outputs_of n))) (known_behind n seen) env1 good.1
+        (subst (λ (k : Known). GradedAll known.types (modes_of known.preds) types running k ns) same has.1) (all_right (IsPart known types i) (basic_goals n) (all_basic_goals ns) parts)
         (rest_fits known types i out _ _ b (in_node n) (in_nodes ns) (outputs_of n) seen (known_behind n seen) env env1 (outputs_within known types i n _ b good.0)
         (λ x h. or_right (out x) (in_nodes ns x) h) (λ x h. or_right (out x) (in_node n x) h) (λ x h. or_left (out x) (in_node n x) h) fits goes))
 

@@ -9,6 +9,7 @@ use Rattle.merc_tree.specs.declared.declarations.Module.{Module}
 use Rattle.merc_graded_tree.specs.declared.basic.BasicGoal.{BasicGoal}
 use Rattle.merc_graded_tree.specs.declared.basic.BasicGoal.TheVariants.{True, Fail, Assign, Test, Build, Split, Arithmetic, Compare, Raise, Call, Wait, Signal}
 use Rattle.merc_graded_tree.specs.declared.basic.Procedure.{Procedure}
+use Rattle.merc_graded_tree.specs.declared.entries.Running.{Running}
 use Rattle.merc_graded_tree.specs.Nodes.{Node, node, Goal, Basic, Conjunction, Disjunction, Switch, Conditional, Negation, Quantified, Nodes, no_nodes, more_nodes, Arms, no_arms, more_arms, list_of, outputs_of}
 use Rattle.merc_graded_tree.specs.Roots.{symbols_of, bodies_of}
 use Rattle.merc_graded_tree.specs.Variables.{variables_of, in_goal, in_node, in_nodes, in_arms}
@@ -21,7 +22,7 @@ use Rattle.merc_order_laws.proofs.Facts.{or_left, or_right, or_cases, either_way
 use Rattle.merc_order_laws.proofs.Written.{all_left, all_right}
 use Rattle.merc_grading.specs.Categories.{conjunction_category, disjunction_category, arms_category}
 use Rattle.merc_grading.specs.Known.{symbols_of_type, are_complete, Known, known_behind}
-use Rattle.merc_grading.specs.Grading.{given, category_at, categories, capped, basic_category, rule}
+use Rattle.merc_grading.specs.Grading.{given, category_at, categories, handed_on, capped, basic_category, rule}
 use Rattle.merc_value.specs.Value.{Value, Values}
 use Rattle.merc_meaning.specs.Trace.{Env, Trace, after, first_alone}
 use Rattle.merc_meaning.specs.Values.{fields, same}
@@ -39,7 +40,8 @@ use Rattle.merc_program_laws.proofs.Knowing.{value_of}
 use Rattle.merc_program_laws.proofs.Simple.{GoodBasicGoal}
 use Rattle.merc_program_laws.proofs.Calls.{LawfulCalls}
 use Rattle.merc_program_laws.proofs.Maxima.{most_is, or_zero}
-use Rattle.merc_program_laws.proofs.Graded.{Graded, GradedGoal, GradedAll, GradedEach, GradedArms}
+use Rattle.merc_program_laws.proofs.Graded.{Graded, GradedGoal, GradedAll, GradedEach, GradedArms, handed_or_zero}
+use Rattle.merc_program_laws.proofs.Combining.{goes_besides}
 use Rattle.merc_program_laws.proofs.TreeCategories.{IsPart, outputs_within, node_law}
 use Rattle.merc_program_laws.proofs.Truthful.{IsInstance, Truthful, Grows, then_truth, single_each, single_done, behind_answered, front_answered, single_negated}
 use Rattle.merc_program_laws.proofs.SimpleTruth.{assign_truth, test_truth, build_truth, split_truth, arithmetic_truth, compare_truth, raise_truth}
@@ -177,13 +179,34 @@ module _ (known : Module) (declared : AreGoodTypes known.types) (program : Progr
       behind_first known types i out (with out (in_nodes ns)) (with out (in_node m)) b (in_node m) (in_nodes ns) (outputs_of m) seen (known_behind m seen) env env1 (outputs_within known types i m (with out (in_nodes ns)) b good)
       (λ x h. or_right (out x) (in_nodes ns x) h) (λ x h. or_right (out x) (in_node m x) h) (λ x h. or_left (out x) (in_node m x) h) fits goes
 
-  list_grows : (ns : Nodes) (out : Variables) (b : Bound) (seen : Known) (env : Env) → GoodNodes (modes_of known.preds) out b ns → GradedAll known.types (modes_of known.preds) types seen ns → Parts (all_basic_goals ns)
+  -- What is known at the goals of a conjunction behind the first.
+  abbrev next_known : Running → Known → Node → Known
+  next_known running seen m = handed_on running (category_at m) (known_behind m seen) seen
+
+  -- behind the first goal of a conjunction, which hands on all that it tells where it answers
+  abbrev Handed : Running → Variables → Bound → Node → Known → Env → Env → Type 0
+  Handed running out b m seen env env1 = After out b m seen env env1 × (next_known running seen m ≡ known_behind m seen)
+
+  abbrev GradedIns : Running → Known → Nodes → Type 0
+  GradedIns running seen ns = GradedAll known.types (modes_of known.preds) types running seen ns
+
+  handed_goes : (running : Running) (m : Node) (out : Variables) (b : Bound) (seen : Known) (env : Env) → Lawful (After out b m seen env) (category_at m) (trace_of m env) → Each (Handed running out b m seen env) (trace_of m env)
+  handed_goes running m out b seen env law =
+      goes_besides (After out b m seen env) (next_known running seen m ≡ known_behind m seen) (category_at m) (trace_of m env) law (handed_or_zero running (category_at m) (known_behind m seen) seen)
+
+  rest_graded : (running : Running) (m : Node) (ns : Nodes) (seen : Known) → next_known running seen m ≡ known_behind m seen → GradedIns running (next_known running seen m) ns → GradedIns running (known_behind m seen) ns
+  rest_graded running m ns seen same has = subst (λ (k : Known). GradedIns running k ns) same has
+
+  list_grows : (running : Running) (ns : Nodes) (out : Variables) (b : Bound) (seen : Known) (env : Env) → GoodNodes (modes_of known.preds) out b ns → GradedIns running seen ns → Parts (all_basic_goals ns)
       → First out b (in_nodes ns) seen env → Each (Grows (in_nodes ns) env) (all_trace program call ns env)
-  list_grows no_nodes out b seen env good has parts fits = (((λ x v e. e), (λ x o. refl)), tt)
-  list_grows (more_nodes m ns) out b seen env good has parts fits =
-      grows_on (in_node m) (in_nodes ns) env (λ env1. all_trace program call ns env1) (trace_of m env) (After (with out (in_nodes ns)) b m seen env)
-      (law_of m (with out (in_nodes ns)) b seen env good.0 has.0 (all_left (IsPart known types i) (basic_goals m) (all_basic_goals ns) parts) (first_fits m ns out b seen env fits)).goes (λ env1 g. (g.keeps, g.own))
-      (λ env1 g. list_grows ns (with out (in_node m)) (with b (among (outputs_of m))) (known_behind m seen) env1 good.1 has.1 (all_right (IsPart known types i) (basic_goals m) (all_basic_goals ns) parts) (rest_fits m ns out b seen env env1 good.0 fits g))
+  list_grows running no_nodes out b seen env good has parts fits = (((λ x v e. e), (λ x o. refl)), tt)
+  list_grows running (more_nodes m ns) out b seen env good has parts fits =
+      grows_on (in_node m) (in_nodes ns) env (λ env1. all_trace program call ns env1) (trace_of m env) (Handed running (with out (in_nodes ns)) b m seen env)
+      (handed_goes running m (with out (in_nodes ns)) b seen env
+      (law_of m (with out (in_nodes ns)) b seen env good.0 has.0 (all_left (IsPart known types i) (basic_goals m) (all_basic_goals ns) parts) (first_fits m ns out b seen env fits)))
+      (λ env1 g. (g.0.keeps, g.0.own))
+      (λ env1 g. list_grows running ns (with out (in_node m)) (with b (among (outputs_of m))) (known_behind m seen) env1 good.1 (rest_graded running m ns seen g.1 has.1)
+      (all_right (IsPart known types i) (basic_goals m) (all_basic_goals ns) parts) (rest_fits m ns out b seen env env1 good.0 fits g.0))
 
   -- If-then-else.
 
@@ -236,7 +259,7 @@ module _ (known : Module) (declared : AreGoodTypes known.types) (program : Progr
     goal_truth : (g : Goal) (outs : List ℕ) (out : Variables) (b : Bound) (seen : Known) (env : Env) → GoodGoal (modes_of known.preds) out b outs g → GradedGoal known.types (modes_of known.preds) types seen g → GoalHasGuards g
         → Parts (basic_goals_in g) → First out b (in_goal g) seen env → TrueGoal out g env
     goal_truth (Basic g) outs out b seen env good has guards parts fits = basic_truth g outs out b seen env (record { good = good; typed = parts.0.0; literal = parts.0.1 }) fits
-    goal_truth (Conjunction running ns) outs out b seen env good has guards parts fits = list_truth ns out b seen env good.0 has guards parts fits
+    goal_truth (Conjunction running ns) outs out b seen env good has guards parts fits = list_truth running ns out b seen env good.0 has guards parts fits
     goal_truth (Disjunction ns) outs out b seen env good has guards parts fits = each_truth ns out b (in_nodes ns) seen env (λ x o. o) good.0 has guards parts fits
     goal_truth (Switch x arms) outs out b seen env good has guards parts fits =
         let x_in : in_goal (Switch x arms) x ≡ true = or_left (x == x) (in_arms arms x) (itself x) in
@@ -285,19 +308,22 @@ module _ (known : Module) (declared : AreGoodTypes known.types) (program : Progr
     goal_led (Negation m) outs out b seen env good has guards parts fits goal one = led_single out (in_node m) _ _ env (goal_trace program call (Negation m) env) goal (single_negated env (trace_of m env))
     goal_led (Quantified own m) outs out b seen env good has guards parts fits goal one = led_single out (in_node m) _ _ env (trace_of m env) goal (single_at m env (one_not_many (most_of (category_at m)) one))
 
-    list_truth : (ns : Nodes) (out : Variables) (b : Bound) (seen : Known) (env : Env) → GoodNodes (modes_of known.preds) out b ns → GradedAll known.types (modes_of known.preds) types seen ns → AllHaveGuards ns
+    list_truth : (running : Running) (ns : Nodes) (out : Variables) (b : Bound) (seen : Known) (env : Env) → GoodNodes (modes_of known.preds) out b ns → GradedIns running seen ns → AllHaveGuards ns
         → Parts (all_basic_goals ns) → First out b (in_nodes ns) seen env → Truthful out (in_nodes ns) (λ s. YesAll y n out ns s) (λ s. NoAny y n out ns s) env (all_trace program call ns env)
-    list_truth no_nodes out b seen env good has guards parts fits = record { answers_yes = ((λ s vals a. tt), tt); others_no = λ d s vals a. inr (inl (λ x o p v e. a x o v e)) }
-    list_truth (more_nodes m ns) out b seen env good has guards parts fits =
+    list_truth running no_nodes out b seen env good has guards parts fits = record { answers_yes = ((λ s vals a. tt), tt); others_no = λ d s vals a. inr (inl (λ x o p v e. a x o v e)) }
+    list_truth running (more_nodes m ns) out b seen env good has guards parts fits =
         let parts_m : Parts (basic_goals m) = all_left (IsPart known types i) (basic_goals m) (all_basic_goals ns) parts in
         let parts_ns : Parts (all_basic_goals ns) = all_right (IsPart known types i) (basic_goals m) (all_basic_goals ns) parts in
         let fits_m = first_fits m ns out b seen env fits in
         then_truth out (with out (in_nodes ns)) (with out (in_node m)) (in_node m) (in_nodes ns) _ _ _ _ env (λ env1. all_trace program call ns env1) (trace_of m env)
         (λ x o. or_right (out x) (in_nodes ns x) o) (λ x o. or_left (out x) (in_nodes ns x) o) (λ x o. or_left (out x) (in_node m x) o)
-        (After (with out (in_nodes ns)) b m seen env) (law_of m (with out (in_nodes ns)) b seen env good.0 has.0 parts_m fits_m).goes (λ env1 g. (g.keeps, g.own))
+        (Handed running (with out (in_nodes ns)) b m seen env) (handed_goes running m (with out (in_nodes ns)) b seen env (law_of m (with out (in_nodes ns)) b seen env good.0 has.0 parts_m fits_m))
+        (λ env1 g. (g.0.keeps, g.0.own))
         (node_truth m (with out (in_nodes ns)) b seen env good.0 has.0 guards.0 parts_m fits_m)
-        (λ env1 g. list_grows ns (with out (in_node m)) (with b (among (outputs_of m))) (known_behind m seen) env1 good.1 has.1 parts_ns (rest_fits m ns out b seen env env1 good.0 fits g))
-        (λ env1 g. list_truth ns (with out (in_node m)) (with b (among (outputs_of m))) (known_behind m seen) env1 good.1 has.1 guards.1 parts_ns (rest_fits m ns out b seen env env1 good.0 fits g))
+        (λ env1 g. list_grows running ns (with out (in_node m)) (with b (among (outputs_of m))) (known_behind m seen) env1 good.1 (rest_graded running m ns seen g.1 has.1) parts_ns
+        (rest_fits m ns out b seen env env1 good.0 fits g.0))
+        (λ env1 g. list_truth running ns (with out (in_node m)) (with b (among (outputs_of m))) (known_behind m seen) env1 good.1 (rest_graded running m ns seen g.1 has.1) guards.1 parts_ns
+        (rest_fits m ns out b seen env env1 good.0 fits g.0))
 
     each_truth : (ns : Nodes) (out : Variables) (b : Bound) (whole : Variables) (seen : Known) (env : Env) → ((x : ℕ) → in_nodes ns x ≡ true → whole x ≡ true) → GoodDisjuncts (modes_of known.preds) out b ns
         → GradedEach known.types (modes_of known.preds) types seen ns → AllHaveGuards ns → Parts (all_basic_goals ns) → First out b whole seen env

@@ -6,10 +6,11 @@ use Rattle.merc_tree.specs.Types.{TypeExpr}
 use Rattle.merc_tree.specs.declared.declarations.ModeDecl.{ModeDecl}
 use Rattle.merc_tree.specs.declared.declarations.TypeDef.{TypeDef}
 use Rattle.merc_goal_tree.specs.declared.goal.Symbol.{Symbol}
+use Rattle.merc_graded_tree.specs.declared.entries.Running.{Running}
 use Rattle.merc_graded_tree.specs.declared.entries.Running.TheVariants.{Sequential, Parallel}
 use Rattle.merc_graded_tree.specs.Nodes.{Node, node, Goal, Basic, Conjunction, Disjunction, Switch, Conditional, Negation, Quantified, Nodes, no_nodes, more_nodes, Arms, no_arms, more_arms, nodes_of, list_of}
 use Rattle.merc_order.specs.Bound.{Bound}
-use Rattle.merc_grading.specs.Grading.{graded, graded_goal, graded_all, graded_each, graded_arms}
+use Rattle.merc_grading.specs.Grading.{category_at, handed_on, graded, graded_goal, graded_all, graded_each, graded_arms}
 use Rattle.merc_grading.specs.Known.{Known, known_behind, same_symbol}
 use Rattle.merc_grading.specs.Switches.{split_variables, symbol_at, Group, of_symbol, without_symbol, with_disjunct, grouped, choice, arm_body, arms_of_groups, switched, regrouped, bound_behind, find, find_goal, find_all, find_each}
 use Rattle.merc_par_split.specs.Sites.{count}
@@ -26,9 +27,13 @@ as_many goals others same few each =
 module _ (declared : List TypeDef) (types : ℕ → TypeExpr) where
   -- Categories.
   module _ (modes : ℕ → List ModeDecl) where
-    graded_count : (known : Known) (goals : Nodes) → count (graded_all declared modes types known goals) ≡ count goals
-    graded_count known no_nodes = refl
-    graded_count known (more_nodes first rest) = ap suc (graded_count (known_behind first known) rest)
+    -- what is known at the goal of a conjunction behind this one
+    abbrev next : Running → Known → Node → Known
+    next running known first = handed_on running (category_at (graded declared modes types known first)) (known_behind first known) known
+
+    graded_count : (running : Running) (known : Known) (goals : Nodes) → count (graded_all declared modes types running known goals) ≡ count goals
+    graded_count running known no_nodes = refl
+    graded_count running known (more_nodes first rest) = ap suc (graded_count running (next running known first) rest)
 
     mutual
       graded_few : (known : Known) (tree : Node) → HasFew tree → HasFew (graded declared modes types known tree)
@@ -36,9 +41,9 @@ module _ (declared : List TypeDef) (types : ℕ → TypeExpr) where
 
       graded_goal_few : (known : Known) (goal : Goal) → GoalHasFew goal → GoalHasFew (graded_goal declared modes types known goal)
       graded_goal_few known (Basic goal) few = few
-      graded_goal_few known (Conjunction Sequential goals) few = graded_all_few known goals few
+      graded_goal_few known (Conjunction Sequential goals) few = graded_all_few Sequential known goals few
       graded_goal_few known (Conjunction (Parallel site) goals) few =
-          as_many goals (graded_all declared modes types known goals) (graded_count known goals) few (graded_all_few known goals few.1.1)
+          as_many goals (graded_all declared modes types (Parallel site) known goals) (graded_count (Parallel site) known goals) few (graded_all_few (Parallel site) known goals few.1.1)
       graded_goal_few known (Disjunction goals) few = graded_each_few known goals few
       graded_goal_few known (Switch variable arms) few = graded_arms_few known variable arms few
       graded_goal_few known (Conditional condition then_part else_part) few =
@@ -46,9 +51,9 @@ module _ (declared : List TypeDef) (types : ℕ → TypeExpr) where
       graded_goal_few known (Negation goal) few = graded_few known goal few
       graded_goal_few known (Quantified own goal) few = graded_few known goal few
 
-      graded_all_few : (known : Known) (goals : Nodes) → AllHaveFew goals → AllHaveFew (graded_all declared modes types known goals)
-      graded_all_few known no_nodes few = tt
-      graded_all_few known (more_nodes first rest) few = (graded_few known first few.0, graded_all_few (known_behind first known) rest few.1)
+      graded_all_few : (running : Running) (known : Known) (goals : Nodes) → AllHaveFew goals → AllHaveFew (graded_all declared modes types running known goals)
+      graded_all_few running known no_nodes few = tt
+      graded_all_few running known (more_nodes first rest) few = (graded_few known first few.0, graded_all_few running (next running known first) rest few.1)
 
       graded_each_few : (known : Known) (goals : Nodes) → AllHaveFew goals → AllHaveFew (graded_each declared modes types known goals)
       graded_each_few known no_nodes few = tt

@@ -39,3 +39,7 @@ pub mod Conjuncts
 pub mod Sights
 pub mod ConjunctsKeep
 pub mod ConjunctsAlong
+pub mod Dets
+pub mod Begins
+pub mod Behind
+pub mod BehindWaits

@@ -1,6 +1,7 @@
 -- Categories depend on what is known of the variables that occur in a goal, and on nothing else that is known.
 use Rattle.std.proofs.Common.{◌≡◌, inl, inr, ℕ, Bool, true, false, ◌==◌, ◌||◌, if◌then◌else◌, List, [], ◌∷◌, Option, Some, None, refl, ap, sym, ◌∙◌, subst}
 use Rattle.std.specs.List.{filter}
+use Rattle.merc_base.specs.Category.{most_of}
 use Rattle.merc_base.specs.declared.category.Category.{Category}
 use Rattle.merc_tree.specs.Types.{TypeExpr}
 use Rattle.merc_tree.specs.declared.declarations.ModeDecl.{ModeDecl}
@@ -8,12 +9,15 @@ use Rattle.merc_tree.specs.declared.declarations.TypeDef.{TypeDef}
 use Rattle.merc_goal_tree.specs.declared.goal.Symbol.{Symbol}
 use Rattle.merc_graded_tree.specs.declared.basic.BasicGoal.{BasicGoal}
 use Rattle.merc_graded_tree.specs.declared.basic.BasicGoal.TheVariants.{True, Fail, Assign, Test, Build, Split, Arithmetic, Compare, Raise, Call, Wait, Signal}
+use Rattle.merc_graded_tree.specs.declared.entries.Running.{Running}
+use Rattle.merc_graded_tree.specs.declared.entries.Running.TheVariants.{Sequential, Parallel}
 use Rattle.merc_graded_tree.specs.Nodes.{Node, node, Goal, Basic, Conjunction, Disjunction, Switch, Conditional, Negation, Quantified, Nodes, no_nodes, more_nodes, Arms, no_arms, more_arms}
 use Rattle.merc_graded_tree.specs.Variables.{in_goal, in_node, in_nodes, in_arms}
 use Rattle.merc_order_laws.specs.Bindings.{Variables}
 use Rattle.merc_order_laws.proofs.Facts.{clash, or_left, or_right}
+use Rattle.merc_grading.specs.Categories.{is_zero}
 use Rattle.merc_grading.specs.Known.{symbols_of_type, is_single, Known, known_of, with_known, known_behind_basic, known_behind, known_behind_goal, known_behind_all}
-use Rattle.merc_grading.specs.Grading.{split_category, capped, rule}
+use Rattle.merc_grading.specs.Grading.{category_at, handed_on, split_category, capped, rule}
 use Rattle.merc_program_laws.proofs.Values.{or_not_left, or_not_right, same_number, chosen_false, among_here, among_there, not_here}
 use Rattle.merc_program_laws.proofs.Graded.{Graded, GradedGoal, GradedAll, GradedEach, GradedArms}
 
@@ -36,6 +40,16 @@ agree_with these seen seen' v None None e h = h
 agree_with these seen seen' v (Some s) (Some t) e h = subst (λ (z : Option Symbol). Agree these ((v, s) ∷ seen) (with_known v z seen')) e (agree_more these seen seen' v s h)
 agree_with these seen seen' v None (Some t) e h = absurd cc
 agree_with these seen seen' v (Some s) None e h = absurd cc
+
+agree_if : (these : Variables) (b : Bool) (seen seen' behind behind' : Known) → Agree these seen seen' → Agree these behind behind' → Agree these (if b then seen else behind) (if b then seen' else behind')
+agree_if these true seen seen' behind behind' h k = h
+agree_if these false seen seen' behind behind' h k = k
+
+-- what a goal of a conjunction hands on
+agree_handed : (these : Variables) (running : Running) (c : Category) (seen seen' behind behind' : Known) → Agree these seen seen' → Agree these behind behind'
+    → Agree these (handed_on running c behind seen) (handed_on running c behind' seen')
+agree_handed these Sequential c seen seen' behind behind' h k = k
+agree_handed these (Parallel site) c seen seen' behind behind' h k = agree_if these (is_zero (most_of c)) seen seen' behind behind' h k
 
 -- agreement on a set that holds the variables of a goal is kept behind the goal
 
@@ -152,7 +166,7 @@ module _ (declared : List TypeDef) (modes : ℕ → List ModeDecl) (types : ℕ 
 
     goal_within : (these : Variables) (g : Goal) (seen seen' : Known) → Within (in_goal g) these → Agree these seen seen' → GradedGoal declared modes types seen g → GradedGoal declared modes types seen' g
     goal_within these (Basic g) seen seen' i h has = tt
-    goal_within these (Conjunction running ns) seen seen' i h has = all_within these ns seen seen' i h has
+    goal_within these (Conjunction running ns) seen seen' i h has = all_within these running ns seen seen' i h has
     goal_within these (Disjunction ns) seen seen' i h has = each_within these ns seen seen' i h has
     goal_within these (Switch x arms) seen seen' i h has = arms_within these arms seen seen' x (rest_within these (λ y. y == x) (in_arms arms) i) h has
     goal_within these (Conditional c t e) seen seen' i h has =
@@ -165,12 +179,14 @@ module _ (declared : List TypeDef) (modes : ℕ → List ModeDecl) (types : ℕ 
     goal_within these (Negation n) seen seen' i h has = graded_within these n seen seen' i h has
     goal_within these (Quantified own n) seen seen' i h has = graded_within these n seen seen' i h has
 
-    all_within : (these : Variables) (ns : Nodes) (seen seen' : Known) → Within (in_nodes ns) these → Agree these seen seen' → GradedAll declared modes types seen ns → GradedAll declared modes types seen' ns
-    all_within these no_nodes seen seen' i h has = tt
-    all_within these (more_nodes n ns) seen seen' i h has =
-        let i_n = first_within these (in_node n) (in_nodes ns) i in (
+    all_within : (these : Variables) (running : Running) (ns : Nodes) (seen seen' : Known) → Within (in_nodes ns) these → Agree these seen seen' → GradedAll declared modes types running seen ns → GradedAll declared modes types running seen' ns
+    all_within these running no_nodes seen seen' i h has = tt
+    all_within these running (more_nodes n ns) seen seen' i h has =
+        let i_n = first_within these (in_node n) (in_nodes ns) i in
+        let next : Known → Known = λ (before : Known). handed_on running (category_at n) (known_behind n before) before in (
           graded_within these n seen seen' i_n h has.0,
-          all_within these ns (known_behind n seen) (known_behind n seen') (rest_within these (in_node n) (in_nodes ns) i) (behind_agree these n seen seen' i_n h) has.1,
+          all_within these running ns (next seen) (next seen') (rest_within these (in_node n) (in_nodes ns) i)
+              (agree_handed these running (category_at n) seen seen' (known_behind n seen) (known_behind n seen') h (behind_agree these n seen seen' i_n h)) has.1,
         )
 
     each_within : (these : Variables) (ns : Nodes) (seen seen' : Known) → Within (in_nodes ns) these → Agree these seen seen' → GradedEach declared modes types seen ns → GradedEach declared modes types seen' ns

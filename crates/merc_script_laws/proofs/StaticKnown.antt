@@ -10,6 +10,7 @@ use Rattle.merc_tree.specs.declared.declarations.Module.{Module}
 use Rattle.merc_goal_tree.specs.declared.goal.Symbol.{Symbol}
 use Rattle.merc_graded_tree.specs.declared.basic.BasicGoal.{BasicGoal}
 use Rattle.merc_graded_tree.specs.declared.basic.BasicGoal.TheVariants.{True, Fail, Assign, Test, Build, Split, Arithmetic, Compare, Raise, Call, Wait, Signal}
+use Rattle.merc_graded_tree.specs.declared.entries.Running.{Running}
 use Rattle.merc_graded_tree.specs.Nodes.{Node, node, Goal, Basic, Conjunction, Disjunction, Switch, Conditional, Negation, Quantified, Nodes, no_nodes, more_nodes, list_of, outputs_of}
 use Rattle.merc_type_check.specs.Typing.{HasSymbol}
 use Rattle.merc_order.specs.Bound.{Bound, with, among}
@@ -30,7 +31,7 @@ use Rattle.merc_program_laws.specs.GoodPrograms.{AreGoodTypes}
 use Rattle.merc_program_laws.proofs.Values.{Instance, none_not, same_some, same_number, chosen_true, chosen_false, symbol_decides, at_same}
 use Rattle.merc_program_laws.proofs.Knowing.{split_sure}
 use Rattle.merc_program_laws.proofs.Maxima.{capped_fail, capped_is_zero, then_sure, then_is_zero}
-use Rattle.merc_program_laws.proofs.Graded.{Graded, GradedGoal, GradedAll}
+use Rattle.merc_program_laws.proofs.Graded.{Graded, GradedGoal, GradedAll, handed_or_zero}
 use Rattle.merc_program_laws.proofs.TreeCategories.{IsPart}
 use Rattle.merc_script_laws.proofs.Seen.{other_more, other_with}
 
@@ -104,22 +105,27 @@ module _ (known : Module) (types i : Instance) (declared : AreGoodTypes known.ty
     goal_static : (g : Goal) (out : Variables) (b : Bound) (outs : List ℕ) (seen : Known) → GoodGoal (modes_of known.preds) out b outs g → GradedGoal known.types (modes_of known.preds) types seen g → Parts (basic_goals_in g)
         → can_fail_of (Rule seen g) ≡ false → (most_of (Rule seen g) ≡ Zero → ⊥) → (x : ℕ) → b x ≡ true → (s : Symbol) → known_of (known_behind_goal g seen) x ≡ Some s → KnownBefore seen x s
     goal_static (Basic g) out b outs seen good has parts sure some x h s e = basic_static g out b outs seen good parts.0 sure x h s e
-    goal_static (Conjunction running ns) out b outs seen good has parts sure some x h s e = all_static ns out b seen good.0 has parts sure some x h s e
+    goal_static (Conjunction running ns) out b outs seen good has parts sure some x h s e = all_static running ns out b seen good.0 has parts sure some x h s e
     goal_static (Disjunction ns) out b outs seen good has parts sure some x h s e = inl e
     goal_static (Switch y arms) out b outs seen good has parts sure some x h s e = inl e
     goal_static (Conditional c t f) out b outs seen good has parts sure some x h s e = inl e
     goal_static (Negation n) out b outs seen good has parts sure some x h s e = inl e
     goal_static (Quantified own n) out b outs seen good has parts sure some x h s e = static_known n out b seen good.0 has parts sure some x h s e
 
-    -- goals one after the other
-    pub all_static : (ns : Nodes) (out : Variables) (b : Bound) (seen : Known) → GoodNodes (modes_of known.preds) out b ns → GradedAll known.types (modes_of known.preds) types seen ns → Parts (all_basic_goals ns)
-        → can_fail_of (Joined ns) ≡ false → (most_of (Joined ns) ≡ Zero → ⊥) → (x : ℕ) → b x ≡ true → (s : Symbol) → known_of (known_behind_all ns seen) x ≡ Some s → KnownBefore seen x s
-    all_static no_nodes out b seen good has parts sure some x h s e = inl e
-    all_static (more_nodes n ns) out b seen good has parts sure some x h s e =
+    -- goals one after the other, or beside one another
+    pub all_static : (running : Running) (ns : Nodes) (out : Variables) (b : Bound) (seen : Known) → GoodNodes (modes_of known.preds) out b ns → GradedAll known.types (modes_of known.preds) types running seen ns
+        → Parts (all_basic_goals ns) → can_fail_of (Joined ns) ≡ false → (most_of (Joined ns) ≡ Zero → ⊥) → (x : ℕ) → b x ≡ true → (s : Symbol) → known_of (known_behind_all ns seen) x ≡ Some s → KnownBefore seen x s
+    all_static running no_nodes out b seen good has parts sure some x h s e = inl e
+    all_static running (more_nodes n ns) out b seen good has parts sure some x h s e =
         let each = then_sure (category_at n) (Joined ns) sure in
         let some_n : most_of (category_at n) ≡ Zero → ⊥ = λ z. some (then_is_zero (category_at n) (Joined ns) (inl z)) in
         let sure_ns : can_fail_of (Joined ns) ≡ false = elim each.1 as (λ _. can_fail_of (Joined ns) ≡ false) [ inl z ↦ absurd (some_n z) | inr q ↦ q ] in
-        elim (all_static ns _ (with b (among (outputs_of n))) (known_behind n seen) good.1 has.1 (all_right (IsPart known types i) (basic_goals n) (all_basic_goals ns) parts) sure_ns
+        let has_ns : GradedAll known.types (modes_of known.preds) types running (known_behind n seen) ns =
+        elim (handed_or_zero running (category_at n) (known_behind n seen) seen) as (λ _. GradedAll known.types (modes_of known.preds) types running (known_behind n seen) ns) [
+          | inl same ↦ subst (λ (k : Known). GradedAll known.types (modes_of known.preds) types running k ns) same has.1
+          | inr z ↦ absurd (some_n z)
+        ] in
+        elim (all_static running ns _ (with b (among (outputs_of n))) (known_behind n seen) good.1 has_ns (all_right (IsPart known types i) (basic_goals n) (all_basic_goals ns) parts) sure_ns
         (λ z. some (then_is_zero (category_at n) (Joined ns) (inr z))) x (or_left (b x) (among (outputs_of n) x) h) s e) as (λ _. KnownBefore seen x s) [
           | inl k ↦ static_known n _ b seen good.0 has.0 (all_left (IsPart known types i) (basic_goals n) (all_basic_goals ns) parts) each.0 some_n x h s k
           | inr a ↦ inr a

@@ -4,7 +4,7 @@ use Rattle.merc_det.specs.Tasks.{tasks_in_turn}
 use Rattle.merc_det.proofs.planning.plan_in_turn.Given as goal
 
 abbrev pub invariant-loop-last : goal.invariant-loop-last
-invariant-loop-last l = l.tasks.items ++ tasks_in_turn (nodes_of l.left) ≡ l.fn.tasks.items ++ tasks_in_turn (nodes_of l.fn.goals)
+invariant-loop-last l = l.tasks.items ++ tasks_in_turn l.running (nodes_of l.left) ≡ l.fn.tasks.items ++ tasks_in_turn l.running (nodes_of l.fn.goals)
 
 abbrev pub decreases-loop-last : goal.decreases-loop-last
 decreases-loop-last l = length l.left
