@@ -46,7 +46,9 @@ use Rattle.merc_plan.proofs.Holds.{First, keeps_gives, keeps_only}
 use Rattle.merc_plan.proofs.Sets.{clash, tell, absent, same_number, or_either, or_left, or_right, look_past, look_before}
 use Rattle.merc_script_laws.specs.Parallel.{all_outputs}
 use Rattle.merc_script_laws.proofs.Bonds.{Set, Here, Owed, signs, rights_for, Fit, Match, Names, Ready, Kept, Ends, Used, Planned, Sound, Goes}
-use Rattle.merc_script_laws.proofs.HoldLaw.{not_done, each_event, each_unreached}
+use Rattle.merc_grading.specs.Faults.{runs_beside}
+use Rattle.merc_script_laws.proofs.HoldLaw.{each_event, each_unreached}
+use Rattle.merc_script_laws.proofs.Dets.{like_behind_first, first_pair, AllBeside, det_conjunct}
 use Rattle.merc_script_laws.proofs.Members.{Member}
 use Rattle.merc_script_laws.proofs.Cells.{rights_signal}
 use Rattle.merc_script_laws.proofs.Sites.{nth_high}
@@ -56,58 +58,8 @@ use Rattle.merc_script_laws.proofs.Conjuncts.{fork, At, at_next, this_one, names
 use Rattle.merc_script_laws.proofs.Sights.{FineFor, handed, Nonzero, zero_or, AllSound, AllCertain, Sights, sights_next, AreProper}
 use Rattle.merc_script_laws.proofs.ConjunctsKeep.{GivesProper, planned_left, planned_right, EachGoes, Stands, Sees, Proper, site, kids, waits, signals, goal, same, all_used, is_within, kid_hold, kid, rights, may_wait, kid_here, ProperOf, KidEnd, kid_uses}
 
--- the first answer of a det trace
-like_behind_first : {C D : Type 0} (R : Hold → Env → Type 0) (Q : C → D → Type 0) (P : Hold → Type 0) (f' : Env → Flat D) (t : Flat Hold) (t' : Flat Env) → Det t' → (w : Flat C) → Like R t t' → First P t
-    → ((a : Hold) (b : Env) → R a b → P a → Answers t → Like Q w (f' b)) → Like Q (behind t w) (each f' t')
-like_behind_first R Q P f' Done Done d w h p s = tt
-like_behind_first R Q P f' (Halts g) (Halts g') d w h p s = h
-like_behind_first R Q P f' (Tick t) (Tick t') d w h p s = like_behind_first R Q P f' t t' d w h p s
-like_behind_first R Q P f' (Answer a t) (Answer b t') d w h p s = subst (λ x. Like Q w x) (sym (ap (λ x. after (f' b) (each f' x)) d ∙ after_done (f' b))) (s a b h.0 p tt)
-like_behind_first R Q P f' t t' d w h p s = absurd h
-
-first_pair : (R : Hold → Env → Type 0) (P : Hold → Type 0) (t : Flat Hold) (t' : Flat Env) → Like R t t' → First P t → Answers t → (a : Hold) × ((b : Env) × (R a b × P a))
-first_pair R P Done Done h p n = absurd n
-first_pair R P (Halts g) (Halts g') h p n = absurd n
-first_pair R P (Tick t) (Tick t') h p n = first_pair R P t t' h p n
-first_pair R P (Answer a t) (Answer b t') h p n = (a, (b, (h.0, p)))
-first_pair R P t t' h p n = absurd h
-
-pub first_at : (P : Hold → Type 0) (t : Flat Hold) → First P t → Answers t → (a : Hold) × P a
-first_at P Done p n = absurd n
-first_at P (Halts g) p n = absurd n
-first_at P (Tick t) p n = first_at P t p n
-first_at P (Answer a t) p n = (a, p)
-
-det_first : {A : Type 0} (t : Flat A) → NotDone (first_alone t) → Fed (first_alone t) → Det (first_alone t)
-det_first Done n f = absurd n
-det_first (Halts (Raised v)) n f = tt
-det_first (Halts TooDeep) n f = tt
-det_first (Halts Starving) n f = absurd f
-det_first (Tick t) n f = det_first t n f
-det_first (Answer a t) n f = refl
-
-fed_events : (t : Trace) → Fed (events t)
-fed_events (TraceEnds TraceDone) = tt
-fed_events (TraceEnds (TraceRaised text)) = tt
-fed_events (TraceEnds TraceTooDeep) = tt
-fed_events (TraceTick t) = fed_events t
-fed_events (TraceAnswer env t) = fed_events t
-
--- a goal that is not entered again and does not end without an answer
-det_case : (b : Bool) (t : Trace) → b ≡ true → NotDone (events (once_if b t)) → Fed (events (once_if b t)) → Det (events (once_if b t))
-det_case true t e n f = subst Det (sym (events_once true t)) (det_first (events t) (subst NotDone (events_once true t) n) (subst Fed (events_once true t) f))
-det_case false t e n f = absurd (cc)
-
-det_node : (program : Program) (calls : Procedure → Env → Trace) (n : Node) (full : Env) → answers_once (outputs_of n) (category_of n) ≡ true → NotDone (events (node_trace program calls n full)) → Det (events (node_trace program calls n full))
-det_node program calls (node g outs category span) full e n = det_case (answers_once outs category) (goal_trace program calls g full) e n (fed_events (once_if (answers_once outs category) (goal_trace program calls g full)))
-
 smaller : (j k : ℕ) → nat_eq j k ≡ false → j < suc k → j < k
 smaller j k e l = grind (arith, nat_tests, e, l)
-
--- conjuncts that are not entered again
-abbrev pub AllOnce : Nodes → Type 0
-AllOnce no_nodes = ⊤
-AllOnce (more_nodes n ns) = (answers_once (outputs_of n) (category_of n) ≡ true) × AllOnce ns
 
 -- Given are the module, the types of the variables, and what type variables stand for.
 module _ (known : Module) (types i : Instance) (declared : AreGoodTypes known.types) (program : Program) (calls : Procedure → Env → Trace) (lawful : LawfulCalls known program calls) (plan : Plan) (split : Program) (course : Procedure → Hold → BranchCourse)
@@ -197,8 +149,8 @@ module _ (known : Module) (types i : Instance) (declared : AreGoodTypes known.ty
           (like_with KidLike KidLaw (flat course_k) trace_k kid_along.0 (each_event KidLaw (node_trace program calls n fullk) law_k.goes))
           (each_unreached (most_of (category_at n)) trace_k (λ z. each_event Never (node_trace program calls n fullk) (law_k.no_answer z)))
 
-      pub kid_det : answers_once (outputs_of n) (category_of n) ≡ true → Det trace_k
-      kid_det once = det_node program calls n fullk once (not_done (node_trace program calls n fullk) (law_k.some_answer certain))
+      pub kid_det : runs_beside (category_at n) ≡ true → Det trace_k
+      kid_det beside = det_conjunct known types i declared program calls lawful n (with outk (in_nodes ns)) bk seenk fullk beside sound fits_n
 
       kid_keeps : Keeps (ProperOf known types i declared program calls plan split course offers goals outputs w s out b seen here hold distinct free fit ready names_are single fine goes counts at k left bk outk seenk n ns a q sound certain given) (KidEnd known types i declared program calls plan split course offers goals outputs w s out b seen here hold distinct free fit ready names_are single fine goes counts at k left bk outk seenk n ns a q sound certain given) (rights known types i declared program calls plan split course offers goals outputs w s out b seen here hold distinct free fit ready names_are single fine goes counts at k left bk outk seenk n ns a q sound certain given) (may_wait known types i declared program calls plan split course offers goals outputs w s out b seen here hold distinct free fit ready names_are single fine goes counts at k left bk outk seenk n ns a q sound certain given) [] course_k
       kid_keeps = kid_uses known types i declared program calls plan split course offers goals outputs w s out b seen here hold distinct free fit ready names_are single fine goes counts at k left bk outk seenk n ns a q sound certain given proper_here planned_here
@@ -265,7 +217,7 @@ module _ (known : Module) (types i : Instance) (declared : AreGoodTypes known.ty
 
     -- the conjuncts one behind the other, against the trace
     pub kids_along : (ns : Nodes) (at k : ℕ) (left : List ℕ) (bk : Bound) (outk : Variables) (seenk : Known) → Stands known types i declared program calls plan split course offers goals outputs w s out b seen here hold distinct free fit ready names_are single fine goes counts k left bk ns → Sees known types i declared program calls plan split course offers goals outputs w s out b seen here hold distinct free fit ready names_are single fine goes counts k left bk outk seenk ns
-        → AllSound known types i declared outk bk seenk ns → AllCertain known types i declared ns → AllOnce ns → Planned plan at (planned_conjuncts k outputs w s left ns) → (given : List Gift) (fullk : Env) → Going k bk outk seenk ns given fullk
+        → AllSound known types i declared outk bk seenk ns → AllCertain known types i declared ns → AllBeside ns → Planned plan at (planned_conjuncts k outputs w s left ns) → (given : List Gift) (fullk : Env) → Going k bk outk seenk ns given fullk
         → (wt : Flat Hold) (Q : Hold → Env → Type 0) → ((end : Env) → Final (conjunct_gifts plan split course (site known types i declared program calls plan split course offers goals outputs w s out b seen here hold distinct free fit ready names_are single fine goes counts) hold k (placed_conjuncts at k outputs w s left ns) given) end → Like Q wt (Answer end Done))
         → Like Q (flats (kids known types i declared program calls plan split course offers goals outputs w s out b seen here hold distinct free fit ready names_are single fine goes counts at k left ns given) wt) (events (all_trace program calls ns fullk)) × AllSure (kids known types i declared program calls plan split course offers goals outputs w s out b seen here hold distinct free fit ready names_are single fine goes counts at k left ns given)
     kids_along no_nodes at k left bk outk seenk a q sounds certains onces fits given fullk g wt Q end =

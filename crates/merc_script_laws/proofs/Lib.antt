@@ -43,3 +43,4 @@ pub mod Dets
 pub mod Begins
 pub mod Behind
 pub mod BehindWaits
+pub mod ForkSite
