@@ -44,3 +44,4 @@ pub mod Begins
 pub mod Behind
 pub mod BehindWaits
 pub mod ForkSite
+pub mod ConjunctsEnd
