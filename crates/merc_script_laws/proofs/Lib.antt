@@ -45,3 +45,4 @@ pub mod Behind
 pub mod BehindWaits
 pub mod ForkSite
 pub mod ConjunctsEnd
+pub mod ForkUses
