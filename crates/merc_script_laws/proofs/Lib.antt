@@ -46,3 +46,4 @@ pub mod BehindWaits
 pub mod ForkSite
 pub mod ConjunctsEnd
 pub mod ForkUses
+pub mod Forks
