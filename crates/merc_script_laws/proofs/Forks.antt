@@ -76,6 +76,20 @@ both_none : (xs ys : List Refusal) → xs ++ ys ≡ [] → (xs ≡ []) × (ys �
 both_none [] ys h = (refl, h)
 both_none (x ∷ xs) ys h = absurd (cc)
 
+-- the rights to signal are as they were
+same_signs : (hold hold1 : Hold) → hold1.signals ≡ hold.signals → (x : ℕ) → signs x hold1 ≡ signs x hold
+same_signs hold hold1 e x = ap (λ (l : List HeldSignal). map (λ (right : HeldSignal). right.cell) (filter (λ (right : HeldSignal). right.variable == x) l)) e
+
+between_category : (w : List Right) (behind : List Node) (n : Node) → category_of (between w n behind) ≡ category_of n
+between_category [] [] n = refl
+between_category [] (m ∷ ms) n = refl
+between_category (r ∷ w) behind n = refl
+
+between_outputs : (w : List Right) (behind : List Node) (n : Node) → outputs_of (between w n behind) ≡ outputs_of n
+between_outputs [] [] n = refl
+between_outputs [] (m ∷ ms) n = refl
+between_outputs (r ∷ w) behind n = refl
+
 -- a fork with one answer behind it
 once_alone : (b : Bool) (i : ℕ) (x : Fork) (ks : BranchCourses) (h : Hold) → once_if b (Forks i x ks (Finds h Over)) ≡ once_if b (each (λ inner. Finds inner Over) (once_if b (Forks i x ks (Finds h Over))))
 once_alone true i x ks h = refl
@@ -228,6 +242,92 @@ module _ (known : Module) (types i : Instance) (declared : AreGoodTypes known.ty
           subst (λ z. Like R (flat z) (events (node_trace program calls whole full)) × Sure z) (sym (between_branch w2 s w1 output_goals hold))
           (subst (λ z. Like R z (events (node_trace program calls whole full))) (sym (flat_once once t sure))
             (subst (λ z. Like R (flat_once_if once (flat t)) z) (sym (events_once once (all_trace program calls goals full))) (like_once R once (flat t) (events (all_trace program calls goals full)) like)),
-          sure_once once t sure) where
-        same_signs : (hold hold1 : Hold) → hold1.signals ≡ hold.signals → (x : ℕ) → signs x hold1 ≡ signs x hold
-        same_signs hold hold1 e x = ap (λ (l : List HeldSignal). map (λ (right : HeldSignal). right.cell) (filter (λ (right : HeldSignal). right.variable == x) l)) e
+          sure_once once t sure)
+
+      -- Up to its first answer.
+      module _ (later : ℕ → Bool) (w s : List Right) (here : Set) (hold : Hold) (rights : ℕ → Bool) (held : List ℕ) (g : List Gift) (proper : ℕ → Value → Type 0) (is_proper : Proper known types i seen whole s hold proper) (p : due later w s)
+          (all : AllUsed w (in_node whole)) (fine : Fine known types i out b (in_node whole) seen hold) (fit : Fit b here w hold) (ready : Ready here w b (in_node whole)) (names : Names hold) (q : Rightful w s outputs rights held g hold) where
+        abbrev End : List ℕ → List Gift → Hold → Type 0
+        End = Used (After known types i out b outputs (in_node whole) seen (known_behind whole seen) hold) (most_of (category_at whole) ≡ Zero) here w s later outputs hold held g
+
+        module _ (hold1 : Hold) (held1 : List ℕ) (m : Waits here (staying later w) hold hold1) (still : StillWaits plan split course span (staying later w) hold held held1) where
+          same : (x : ℕ) → signs x hold1 ≡ signs x hold
+          same = same_signs hold hold1 m.signals
+
+          back : (x c : ℕ) → has c (signs x hold1) ≡ true → has c (signs x hold) ≡ true
+          back x c h = subst (λ l. has c l ≡ true) (same x) h
+
+          low : (c : ℕ) → c < hold.next → c < hold1.next
+          low c l = subst (λ z. c < z) (sym m.moves.next) l
+
+          abbrev Inside : List ℕ → List Gift → Hold → Type 0
+          Inside = Used (After known types i out b outputs (in_nodes goals) seen (known_behind_all goals seen) hold1) (most_of (category_at whole) ≡ Zero) (here_or here (staying later w)) (moving later w) s later outputs hold1 held1 g
+
+          ends : (held2 : List ℕ) (g2 : List Gift) (e : Hold) → Inside held2 g2 e → End held2 g2 e
+          ends held2 g2 e u = record {
+            moves = moves_waited b here w (staying later w) (moving later w) hold hold1 (parts later w) (stay_in later w) (move_in later w) (sides later w) s later outputs e m.moves u.moves;
+            kept = λ c l h n. u.kept c (low c l) (still c h (λ x o j k. n x o (stay_in later w x j) k)) (λ x o j k. n x o (move_in later w x j) (m.moves.old x c o k));
+            gave = λ x c h k. u.gave x c h (subst (λ l. has c l ≡ true) (sym (same x)) k);
+            left = λ c l n. u.left c (low c l) (λ x j k. n x j (back x c k));
+            signed = u.signed;
+            unsigned = λ x h. u.unsigned x h ∙ same x;
+            behind = after_waited b here w (staying later w) (moving later w) hold hold1 (parts later w) (stay_in later w) (move_in later w) (sides later w) known types i out (in_nodes goals) seen (λ x h. all x (stay_in later w x h)) outputs (known_behind_all goals seen) e m u.behind;
+            reached = u.reached;
+          }
+
+          q1 : Rightful (moving later w) s outputs rights held1 g hold1
+          q1 = record {
+            to_signal = λ x c h k. q.to_signal x c h (back x c k);
+            counts = λ x h. q.counts x h ∙ ap length (sym (same x));
+            to_wait = λ x c o h e.
+                let old = m.moves.old x c o e in
+                still c (q.to_wait x c o (move_in later w x h) old)
+                (λ y r j k. sides later w y j (subst (λ z. are_for (moving later w) z ≡ true) (names.apart_owed x y c o r old k) h));
+            within = q.within;
+            low = λ c h. low c (q.low c h);
+          }
+
+          fit1 : Fit b (here_or here (staying later w)) (moving later w) hold1
+          fit1 = fit_waited b here w (staying later w) (moving later w) hold hold1 (parts later w) (stay_in later w) (move_in later w) (sides later w) (those_once (moves_in later goals) w fit.once) fit m.moves
+
+          fine1 : Fine known types i out b (in_nodes goals) seen hold1
+          fine1 = fine_waited b here w (staying later w) (moving later w) hold hold1 (parts later w) (stay_in later w) (move_in later w) (sides later w) known types i out (in_nodes goals) seen (λ x h. all x (stay_in later w x h)) fit m fine
+
+          inner : Keeps proper End rights held1 g (in_turn plan split course span (forking (moving later w) s ∷ output_goals) hold1)
+          inner = subst (λ z. Keeps proper End rights held1 g z) (sym (fork_is (moving later w) s hold1 (here_site later w s p)))
+              (keeps_end proper End Inside rights ends
+              (unit known types i declared program calls lawful plan split course offers goals outputs (moving later w) s later out b seen (here_or here (staying later w)) hold1 distinct free fit1 (ready_waited b here w (staying later w) (moving later w) hold hold1 (parts later w) (stay_in later w) (move_in later w) (sides later w) (in_nodes goals) ready) (m.moves.names names) (does_move later w)
+                (fine_for known types i declared out b (in_nodes goals) seen (moving later w) hold1 fine1) goes q1.counts covered sound.good.1 (empty_fine known types i out b whole sound.good seen hold1 fine1) q.within sound.parallel.few.0 sound.parallel.few.1.0 sounds certains at
+                (next_sites later w s p) span)
+              held1 g
+              (unit_keeps known types i declared program calls lawful plan split course offers goals outputs (moving later w) s later out b seen (here_or here (staying later w)) hold1 distinct free fit1 (ready_waited b here w (staying later w) (moving later w) hold hold1 (parts later w) (stay_in later w) (move_in later w) (sides later w) (in_nodes goals) ready) (m.moves.names names) (does_move later w)
+                (fine_for known types i declared out b (in_nodes goals) seen (moving later w) hold1 fine1) goes q1.counts covered sound.good.1 (empty_fine known types i out b whole sound.good seen hold1 fine1) q.within sound.parallel.few.0 sound.parallel.few.1.0 sounds certains at
+                (next_sites later w s p) span sound.good.2.0 sound.good.2.1 sound.good.0 rights held1 g proper q1
+                (λ x c v h k t f. is_proper x c v h (back x c k) t (λ some sy e. f (λ z. some (zero_whole z)) sy e)) (most_of (category_at whole) ≡ Zero) whole_zero))
+
+        pub par_uses : Keeps proper (Used (After known types i out b outputs (in_node whole) seen (known_behind whole seen) hold) (most_of (category_at whole) ≡ Zero) here w s later outputs hold held g) rights held g (node_branch plan split course (made later w s) hold)
+        par_uses =
+            let w1 = staying later w in
+            let w2 = moving later w in
+            let d1 = those_once (λ x. not (moves_in later goals x)) w fit.once in
+            subst (λ z. Keeps proper End rights held g z) (sym (between_branch w2 s w1 output_goals hold))
+            (keeps_once proper End rights once (waiting plan split course span w1 (forking w2 s ∷ output_goals) hold) held g
+            (waits_keeps plan split course span proper End rights w1 b here hold (forking w2 s ∷ output_goals) held g (waitable hold names) (fit_less b here w w1 hold (stay_in later w) d1 fit)
+              (λ x c o h e. q.to_wait x c o (stay_in later w x h) e) (λ hold1 held1 m still. inner hold1 held1 m still)))
+
+      -- Where nothing moves into it.
+      pub par_quiet : (later : ℕ → Bool) (here : Set) (hold : Hold) → due later [] [] → Fine known types i out b (in_node whole) seen hold → Fit b here [] hold → Ready here [] b (in_node whole) → Names hold
+          → Quiet hold.next [] (node_branch plan split course (made later [] []) hold)
+      par_quiet later here hold p fine fit ready names =
+          let none : (x : ℕ) → are_for [] x ≡ true → ⊥ = λ x h. absurd (cc) in
+          subst (λ z. Quiet hold.next [] z) (sym (between_branch [] [] [] output_goals hold))
+          (quiet_once hold.next once (in_turn plan split course span (forking [] [] ∷ output_goals) hold) []
+          (subst (λ z. Quiet hold.next [] z) (sym (fork_is [] [] hold (here_site later [] [] p)))
+          (unit_quiet known types i declared program calls lawful plan split course offers goals outputs [] [] later out b seen here hold distinct free fit ready names (λ x h. absurd (none x h)) (fine_for known types i declared out b (in_nodes goals) seen [] hold fine) goes (λ x h. absurd (none x h)) covered sound.good.1
+            (empty_fine known types i out b whole sound.good seen hold fine) (λ x h. absurd (none x h)) sound.parallel.few.0 sound.parallel.few.1.0 sounds certains at (next_sites later [] [] p) span refl refl)))
+
+    pub par_rated : (later : ℕ → Bool) (w s : List Right) → category_of (made later w s) ≡ category
+    par_rated later w s = between_category (staying later w) output_goals (forking (moving later w) s)
+
+    pub par_shaped : (later : ℕ → Bool) (w s : List Right) → outputs_of (made later w s) ≡ outputs
+    par_shaped later w s = between_outputs (staying later w) output_goals (forking (moving later w) s)
