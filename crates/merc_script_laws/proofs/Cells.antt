@@ -70,11 +70,14 @@ name_of next (first ∷ infos) info (inr h) =
 
 pub names_distinct : (next : ℕ) (infos : List CellInfo) → AreDistinct (names (named next infos))
 names_distinct next [] = tt
-names_distinct next (info ∷ infos) = (absent next (names (named (suc next) infos)) (λ h.
-  let r = numbered (λ (z : NamedCell). z.cell) next (named (suc next) infos) h in
-  let l = (of_info (suc next) infos r.0 r.1.0).low in
-  let e = r.1.1 in
-  absurd (omega (arith, e, l))), names_distinct (suc next) infos)
+names_distinct next (info ∷ infos) = (
+  absent next (names (named (suc next) infos)) (λ h.
+      let r = numbered (λ (z : NamedCell). z.cell) next (named (suc next) infos) h in
+      let l = (of_info (suc next) infos r.0 r.1.0).low in
+      let e = r.1.1 in
+      absurd (omega (arith, e, l))),
+  names_distinct (suc next) infos,
+)
 
 pub name_low : (next : ℕ) (infos : List CellInfo) (c : ℕ) → has c (names (named next infos)) ≡ true → next ≤ c
 name_low next infos c h =
@@ -97,7 +100,7 @@ name_apart next infos c l = absent c (names (named next infos)) (λ h. let k = n
 same_case : (f : ℕ → ℕ → ℕ → Bool) (b : Bool) (next : ℕ) (info : CellInfo) (infos : List CellInfo)
     → map (λ (z : NamedCell). z.variable) (filter (λ (z : NamedCell). f z.variable z.producer z.consumer) (named (suc next) infos)) ≡ map (λ (z : CellInfo). z.variable) (filter (λ (z : CellInfo). f z.variable z.producer z.consumer) infos)
     → map (λ (z : NamedCell). z.variable) (if b then record { cell = next; variable = info.variable; producer = info.producer; consumer = info.consumer } ∷ filter (λ (z : NamedCell). f z.variable z.producer z.consumer) (named (suc next) infos) else filter (λ (z : NamedCell). f z.variable z.producer z.consumer) (named (suc next) infos))
-      ≡ map (λ (z : CellInfo). z.variable) (if b then info ∷ filter (λ (z : CellInfo). f z.variable z.producer z.consumer) infos else filter (λ (z : CellInfo). f z.variable z.producer z.consumer) infos)
+    ≡ map (λ (z : CellInfo). z.variable) (if b then info ∷ filter (λ (z : CellInfo). f z.variable z.producer z.consumer) infos else filter (λ (z : CellInfo). f z.variable z.producer z.consumer) infos)
 same_case f true next info infos h = ap (λ l. info.variable ∷ l) h
 same_case f false next info infos h = h
 

@@ -1,15 +1,13 @@
 -- Parallel conjuncts against the trace: what each gives is the value that the trace has, and they go one behind the other as it goes.
-use Rattle.std.proofs.Common.{◌≡◌, ◌≢◌, ◌⊎◌, inl, inr, ℕ, zero, suc, ◌+◌, ◌≤◌, ◌<◌, Bool, true, false, not, ◌==◌, ◌||◌, if◌then◌else◌, is_some, nat_eq, List, [], ◌∷◌, ◌++◌, length, map, Option, Some, None, refl, ap, sym, subst, ◌∙◌, arith}
-use Rattle.std.specs.Prelude.{⊤}
+use Rattle.std.proofs.Common.{◌≡◌, ◌⊎◌, inl, inr, ℕ, zero, suc, ◌+◌, ◌≤◌, ◌<◌, true, false, ◌==◌, is_some, nat_eq, List, [], ◌++◌, length, Some, None, ap, sym, subst, ◌∙◌, arith}
 use Rattle.std.proofs.lemmas.Bool.Decides.{nat_tests}
 use Rattle.merc_base.specs.Category.{can_fail_of, most_of}
-use Rattle.merc_base.specs.declared.category.Category.{Category}
 use Rattle.merc_base.specs.declared.category.Most.TheVariants.{Zero}
 use Rattle.merc_tree.specs.Types.{replaced}
 use Rattle.merc_tree.specs.declared.declarations.Module.{Module}
 use Rattle.merc_goal_tree.specs.declared.goal.Symbol.{Symbol}
 use Rattle.merc_graded_tree.specs.declared.basic.Procedure.{Procedure}
-use Rattle.merc_graded_tree.specs.Nodes.{Node, node, Nodes, no_nodes, more_nodes, list_of, outputs_of, category_of}
+use Rattle.merc_graded_tree.specs.Nodes.{Node, Nodes, no_nodes, more_nodes, outputs_of}
 use Rattle.merc_graded_tree.specs.Variables.{among, in_node, in_nodes}
 use Rattle.merc_order.specs.Bound.{Bound, with}
 use Rattle.merc_order.specs.Procedures.{modes_of}
@@ -17,10 +15,10 @@ use Rattle.merc_order_laws.specs.Bindings.{Variables}
 use Rattle.merc_grading.specs.Known.{Known, known_of, known_behind}
 use Rattle.merc_grading.specs.Grading.{category_at}
 use Rattle.merc_value.specs.Value.{Value, Values}
-use Rattle.merc_meaning.specs.Trace.{Env, Trace, Ends as TraceEnds, Tick as TraceTick, Answer as TraceAnswer, Done as TraceDone, Raised as TraceRaised, TooDeep as TraceTooDeep}
+use Rattle.merc_meaning.specs.Trace.{Env, Trace}
 use Rattle.merc_meaning.specs.Values.{fields}
 use Rattle.merc_meaning.specs.Steps.{value_at}
-use Rattle.merc_meaning.specs.Runs.{Program, answers_once, once_if, goal_trace, node_trace, all_trace}
+use Rattle.merc_meaning.specs.Runs.{Program, node_trace, all_trace}
 use Rattle.merc_program_laws.specs.ValueTypes.{HasType}
 use Rattle.merc_program_laws.specs.GoodPrograms.{AreGoodTypes}
 use Rattle.merc_program_laws.specs.Answers.{Never}
@@ -31,21 +29,21 @@ use Rattle.merc_program_laws.proofs.TreeCategories.{node_law}
 use Rattle.merc_core.specs.Rights.{has}
 use Rattle.merc_core.specs.WellFormed.{AreDistinct}
 use Rattle.merc_par_split.specs.Forks.{forks}
-use Rattle.merc_par_split.specs.Rights.{Right, used_in, users}
-use Rattle.merc_par_split.specs.Sites.{count, are_for, planned, planned_conjuncts}
-use Rattle.merc_par_split.specs.Split.{nothing, placed, placed_conjuncts}
+use Rattle.merc_par_split.specs.Rights.{Right, users}
+use Rattle.merc_par_split.specs.Sites.{are_for, planned, planned_conjuncts}
+use Rattle.merc_par_split.specs.Split.{nothing, placed_conjuncts}
 use Rattle.merc_par_split.proofs.PlannedCounts.{planned_count}
-use Rattle.merc_plan.specs.Branch.{TooDeep, Raised, Starving, Hold, NamedCell, BranchCourse, BranchCourses, Gift, gift_at, gives}
+use Rattle.merc_plan.specs.Branch.{Hold, NamedCell, BranchCourse, BranchCourses, Gift, gift_at, gives}
 use Rattle.merc_plan.specs.Hold.{child_for}
-use Rattle.merc_plan.specs.Branches.{Plan, node_branch, conjunct_gifts}
-use Rattle.merc_plan.proofs.Flat.{Flat, Done, Halts, Tick, Answer, after, each, first_alone, behind, Det, Each, Answers, NotDone, Fed, Like, events}
+use Rattle.merc_plan.specs.Branches.{Plan, conjunct_gifts}
+use Rattle.merc_plan.proofs.Flat.{Flat, Done, Answer, each, behind, Det, Answers, Like, events}
 use Rattle.merc_plan.proofs.Judging.{flat, flats, Sure, AllSure, signals_to, Keeps}
-use Rattle.merc_plan.proofs.Likes.{after_done, like_det, like_with}
-use Rattle.merc_plan.proofs.Events.{events_each, events_once}
+use Rattle.merc_plan.proofs.Likes.{like_det, like_with}
+use Rattle.merc_plan.proofs.Events.{events_each}
 use Rattle.merc_plan.proofs.Holds.{First, keeps_gives, keeps_only}
 use Rattle.merc_plan.proofs.Sets.{clash, tell, absent, same_number, or_either, or_left, or_right, look_past, look_before}
 use Rattle.merc_script_laws.specs.Parallel.{all_outputs}
-use Rattle.merc_script_laws.proofs.Bonds.{Set, Here, Owed, signs, rights_for, Fit, Match, Names, Ready, Kept, Ends, Used, Planned, Sound, Goes}
+use Rattle.merc_script_laws.proofs.Bonds.{Set, signs, rights_for, Fit, Match, Names, Ready, Kept, Ends, Planned, Sound}
 use Rattle.merc_grading.specs.Faults.{runs_beside}
 use Rattle.merc_script_laws.proofs.HoldLaw.{each_event, each_unreached}
 use Rattle.merc_script_laws.proofs.Dets.{like_behind_first, first_pair, AllBeside, det_conjunct}
@@ -53,9 +51,9 @@ use Rattle.merc_script_laws.proofs.Members.{Member}
 use Rattle.merc_script_laws.proofs.Cells.{rights_signal}
 use Rattle.merc_script_laws.proofs.Sites.{nth_high}
 use Rattle.merc_script_laws.proofs.SiteMoves.{good_occurs}
-use Rattle.merc_script_laws.proofs.Kids.{info, own, fact_of, OwnSign, sign_cases, same_own, own_low, own_sign, signs_cell}
-use Rattle.merc_script_laws.proofs.Conjuncts.{fork, At, at_next, this_one, names_k, fit_k, ready_k, match_k, within_k, own_right}
-use Rattle.merc_script_laws.proofs.Sights.{FineFor, handed, Nonzero, zero_or, AllSound, AllCertain, Sights, sights_next, AreProper}
+use Rattle.merc_script_laws.proofs.Kids.{own, fact_of, OwnSign, sign_cases, same_own, own_low, own_sign, signs_cell}
+use Rattle.merc_script_laws.proofs.Conjuncts.{fork, at_next, this_one, names_k, fit_k, ready_k, match_k, own_right}
+use Rattle.merc_script_laws.proofs.Sights.{FineFor, handed, Nonzero, zero_or, AllSound, AllCertain, sights_next}
 use Rattle.merc_script_laws.proofs.ConjunctsKeep.{GivesProper, planned_left, planned_right, EachGoes, Stands, Sees, Proper, site, kids, waits, signals, goal, same, all_used, is_within, kid_hold, kid, rights, may_wait, kid_here, ProperOf, KidEnd, kid_uses}
 
 smaller : (j k : ℕ) → nat_eq j k ≡ false → j < suc k → j < k
@@ -91,6 +89,7 @@ module _ (known : Module) (types i : Instance) (declared : AreGoodTypes known.ty
     going_proper k bk outk seenk ns given fullk g one m v e = on (before one.producer k) where
       given_one : (u : Value) → gift_at one.cell given ≡ Some (Some u) → u ≡ v
       given_one u p = same_some (same_some (sym p ∙ e))
+
       on : (one.producer < k) ⊎ (k ≤ one.producer) → (one.producer < k) × (HasType known.types v (replaced i (types one.variable)) × ((sy : Symbol) → known_of seenk one.variable ≡ Some sy → (vs : Values) × (fields sy v ≡ Some vs)))
       on (inl l) =
           let h = g.has_value one m l in
@@ -161,10 +160,10 @@ module _ (known : Module) (types i : Instance) (declared : AreGoodTypes known.ty
       -- it has the right to signal an own cell alone that it makes
       not_other : (one : NamedCell) → Member one (own goals outputs w s hold) → (one.producer ≡ k → ⊥) → rights known types i declared program calls plan split course offers goals outputs w s out b seen here hold distinct free fit ready names_are single fine goes counts at k left bk outk seenk n ns a q sound certain given one.cell ≡ false
       not_other one m away = absent one.cell (signals_to k (fork goals outputs w s b here hold distinct free fit ready names_are single fine.exact)) (λ h.
-        let r = own_right goals outputs w s b here hold distinct free fit ready names_are single fine.exact k left bk n ns a (goal known types i declared program calls plan split course offers goals outputs w s out b seen here hold distinct free fit ready names_are single fine goes counts at k left bk outk seenk n ns a q sound certain given) (same known types i declared program calls plan split course offers goals outputs w s out b seen here hold distinct free fit ready names_are single fine goes counts at k left bk outk seenk n ns a q sound certain given) given counts one.cell h in on r.0 (sign_cases goals outputs w s hold k (goal known types i declared program calls plan split course offers goals outputs w s out b seen here hold distinct free fit ready names_are single fine goes counts at k left bk outk seenk n ns a q sound certain given) given r.0 one.cell r.1.1)) where
-        on : (x : ℕ) → OwnSign goals outputs w s hold k (goal known types i declared program calls plan split course offers goals outputs w s out b seen here hold distinct free fit ready names_are single fine goes counts at k left bk outk seenk n ns a q sound certain given) given x one.cell ⊎ ((child_for true x (site known types i declared program calls plan split course offers goals outputs w s out b seen here hold distinct free fit ready names_are single fine goes counts).moves ≡ Some k) × (has one.cell (signs x hold) ≡ true)) → ⊥
-        on x (inl z) = away (ap (λ (y : NamedCell). y.producer) (sym (same_own goals outputs w s hold z.one one z.there m z.cell)) ∙ z.producer)
-        on x (inr z) = let l = names_are.low x one.cell z.1 in let d = own_low goals outputs w s hold one m in absurd (omega (arith, l, d))
+          let r = own_right goals outputs w s b here hold distinct free fit ready names_are single fine.exact k left bk n ns a (goal known types i declared program calls plan split course offers goals outputs w s out b seen here hold distinct free fit ready names_are single fine goes counts at k left bk outk seenk n ns a q sound certain given) (same known types i declared program calls plan split course offers goals outputs w s out b seen here hold distinct free fit ready names_are single fine goes counts at k left bk outk seenk n ns a q sound certain given) given counts one.cell h in on r.0 (sign_cases goals outputs w s hold k (goal known types i declared program calls plan split course offers goals outputs w s out b seen here hold distinct free fit ready names_are single fine goes counts at k left bk outk seenk n ns a q sound certain given) given r.0 one.cell r.1.1)) where
+            on : (x : ℕ) → OwnSign goals outputs w s hold k (goal known types i declared program calls plan split course offers goals outputs w s out b seen here hold distinct free fit ready names_are single fine goes counts at k left bk outk seenk n ns a q sound certain given) given x one.cell ⊎ ((child_for true x (site known types i declared program calls plan split course offers goals outputs w s out b seen here hold distinct free fit ready names_are single fine goes counts).moves ≡ Some k) × (has one.cell (signs x hold) ≡ true)) → ⊥
+            on x (inl z) = away (ap (λ (y : NamedCell). y.producer) (sym (same_own goals outputs w s hold z.one one z.there m z.cell)) ∙ z.producer)
+            on x (inr z) = let l = names_are.low x one.cell z.1 in let d = own_low goals outputs w s hold one m in absurd (omega (arith, l, d))
 
       abbrev next : Known
       next = handed (category_at n) (known_behind n seenk) seenk
@@ -185,6 +184,7 @@ module _ (known : Module) (types i : Instance) (declared : AreGoodTypes known.ty
         not_out : (x : ℕ) → in_node n x ≡ false → (among (outputs_of n) x ≡ true) ⊎ (among (outputs_of n) x ≡ false) → among (outputs_of n) x ≡ false
         not_out x j (inl h) = clash (in_node n x) (good_occurs (modes_of known.preds) (with outk (in_nodes ns)) bk n sound.good x h) j
         not_out x j (inr h) = h
+
         same_known : (x : ℕ) (sy : Symbol) → known_of next x ≡ Some sy → (next ≡ seenk) × (most_of (category_at n) ≡ Zero) ⊎ ((next ≡ known_behind n seenk) × Nonzero (category_at n)) → known_of (known_behind n seenk) x ≡ Some sy
         same_known x sy e (inl z) = absurd (some z.1)
         same_known x sy e (inr z) = subst (λ y. known_of y x ≡ Some sy) z.0 e
@@ -203,7 +203,7 @@ module _ (known : Module) (types i : Instance) (declared : AreGoodTypes known.ty
             let j = same_number one.producer k z in
             let sign = own_sign goals outputs w s hold k (goal known types i declared program calls plan split course offers goals outputs w s out b seen here hold distinct free fit ready names_are single fine goes counts at k left bk outk seenk n ns a q sound certain given) given one m j in
             let r = own_right goals outputs w s b here hold distinct free fit ready names_are single fine.exact k left bk n ns a (goal known types i declared program calls plan split course offers goals outputs w s out b seen here hold distinct free fit ready names_are single fine goes counts at k left bk outk seenk n ns a q sound certain given) (same known types i declared program calls plan split course offers goals outputs w s out b seen here hold distinct free fit ready names_are single fine goes counts at k left bk outk seenk n ns a q sound certain given) given counts one.cell
-                (subst (λ l. has one.cell l ≡ true) (sym (rights_signal (site known types i declared program calls plan split course offers goals outputs w s out b seen here hold distinct free fit ready names_are single fine goes counts) k (goal known types i declared program calls plan split course offers goals outputs w s out b seen here hold distinct free fit ready names_are single fine goes counts at k left bk outk seenk n ns a q sound certain given) hold given)) (signs_cell hold_here one.variable one.cell sign)) in
+            (subst (λ l. has one.cell l ≡ true) (sym (rights_signal (site known types i declared program calls plan split course offers goals outputs w s out b seen here hold distinct free fit ready names_are single fine goes counts) k (goal known types i declared program calls plan split course offers goals outputs w s out b seen here hold distinct free fit ready names_are single fine goes counts at k left bk outk seenk n ns a q sound certain given) hold given)) (signs_cell hold_here one.variable one.cell sign)) in
             let v = first.1.gave r.0 one.cell r.1.0 r.1.1 in
             let is = (names_k goals outputs w s b here hold distinct free fit ready names_are single fine.exact k left bk n ns a (goal known types i declared program calls plan split course offers goals outputs w s out b seen here hold distinct free fit ready names_are single fine goes counts at k left bk outk seenk n ns a q sound certain given) (same known types i declared program calls plan split course offers goals outputs w s out b seen here hold distinct free fit ready names_are single fine goes counts at k left bk outk seenk n ns a q sound certain given) given).apart r.0 one.variable one.cell r.1.1 sign in
             (v.0, (look_past one.cell given (gives course_k) (g.not_yet one m (omega (arith, j))) ∙ v.1.0, ap (value_at p) (sym is) ∙ l.0.0.1.0 r.0 v.0 v.1.1))
@@ -220,13 +220,18 @@ module _ (known : Module) (types i : Instance) (declared : AreGoodTypes known.ty
         → AllSound known types i declared outk bk seenk ns → AllCertain known types i declared ns → AllBeside ns → Planned plan at (planned_conjuncts k outputs w s left ns) → (given : List Gift) (fullk : Env) → Going k bk outk seenk ns given fullk
         → (wt : Flat Hold) (Q : Hold → Env → Type 0) → ((end : Env) → Final (conjunct_gifts plan split course (site known types i declared program calls plan split course offers goals outputs w s out b seen here hold distinct free fit ready names_are single fine goes counts) hold k (placed_conjuncts at k outputs w s left ns) given) end → Like Q wt (Answer end Done))
         → Like Q (flats (kids known types i declared program calls plan split course offers goals outputs w s out b seen here hold distinct free fit ready names_are single fine goes counts at k left ns given) wt) (events (all_trace program calls ns fullk)) × AllSure (kids known types i declared program calls plan split course offers goals outputs w s out b seen here hold distinct free fit ready names_are single fine goes counts at k left ns given)
-    kids_along no_nodes at k left bk outk seenk a q sounds certains onces fits given fullk g wt Q end =
-        (end fullk (g.kept, λ one m.
-          let f = fact_of goals outputs w s hold one m in
-          let l = nth_high 1 f.0.producer f.1.0.maker goals f.1.0.is_maker in
-          let e = a.counted in
-          let p = f.1.1.1.0 in
-          g.has_value one m (omega (arith, l, e, p))), tt)
+    kids_along no_nodes at k left bk outk seenk a q sounds certains onces fits given fullk g wt Q end = (
+      end fullk (
+        g.kept,
+        λ one m.
+            let f = fact_of goals outputs w s hold one m in
+            let l = nth_high 1 f.0.producer f.1.0.maker goals f.1.0.is_maker in
+            let e = a.counted in
+            let p = f.1.1.1.0 in
+            g.has_value one m (omega (arith, l, e, p)),
+      ),
+      tt,
+    )
     kids_along (more_nodes n ns) at k left bk outk seenk a q sounds certains onces fits given fullk g wt Q end =
         let wn = waits known types i declared program calls plan split course offers goals outputs w s out b seen here hold distinct free fit ready names_are single fine goes counts at k left bk outk seenk n ns a q sounds.0 certains.0 given in
         let sn = signals known types i declared program calls plan split course offers goals outputs w s out b seen here hold distinct free fit ready names_are single fine goes counts at k left bk outk seenk n ns a q sounds.0 certains.0 given in
@@ -241,9 +246,15 @@ module _ (known : Module) (types i : Instance) (declared : AreGoodTypes known.ty
         let P : Hold → Type 0 = KidFirst at k left bk outk seenk n ns a q sounds.0 certains.0 given fullk g first in
         let rest : BranchCourses = kids known types i declared program calls plan split course offers goals outputs w s out b seen here hold distinct free fit ready names_are single fine goes counts (at + forks n) (suc k) (left ++ outputs_of n) ns (given ++ gives td) in
         let rec : (e : Hold) (p : Env) → R e p → P e → Answers (flat td) → Like Q (flats rest wt) (events (all_trace program calls ns p)) × AllSure rest = λ e p l f ans.
-            kids_along ns (at + forks n) (suc k) (left ++ outputs_of n) (with bk (among (outputs_of n))) (with outk (in_node n)) (handed (category_at n) (known_behind n seenk) seenk)
-            (at_next goals outputs w s b here hold distinct free fit ready names_are single fine.exact k left bk n ns a) (sights_next known types i declared goals outputs w s out b seen here hold distinct free fit ready names_are single fine k left bk outk seenk n ns a q sounds.0 certains.0) sounds.1 certains.1 onces.1 more (given ++ gives td) p (going_next at k left bk outk seenk n ns a q sounds.0 certains.0 given fullk g first e p l f ans) wt Q end in
-        (subst (λ z. Like Q (behind (flat td) (flats rest wt)) z) (sym (events_each (λ inner. all_trace program calls ns inner) (node_trace program calls n fullk)))
-          (like_behind_first R Q P (λ p. events (all_trace program calls ns p)) (flat td) (events (node_trace program calls n fullk)) det (flats rest wt) both one (λ e p l f ans. (rec e p l f ans).0)),
-        (along.1, (like_det R (flat td) (events (node_trace program calls n fullk)) both det,
-        λ ans. let z = first_pair R P (flat td) (events (node_trace program calls n fullk)) both one ans in (rec z.0 z.1.0 z.1.1.0 z.1.1.1 ans).1)))
+        kids_along ns (at + forks n) (suc k) (left ++ outputs_of n) (with bk (among (outputs_of n))) (with outk (in_node n)) (handed (category_at n) (known_behind n seenk) seenk)
+        (at_next goals outputs w s b here hold distinct free fit ready names_are single fine.exact k left bk n ns a) (sights_next known types i declared goals outputs w s out b seen here hold distinct free fit ready names_are single fine k left bk outk seenk n ns a q sounds.0 certains.0) sounds.1 certains.1 onces.1 more (given ++ gives td) p (going_next at k left bk outk seenk n ns a q sounds.0 certains.0 given fullk g first e p l f ans) wt Q end in (
+          subst (λ z. Like Q (behind (flat td) (flats rest wt)) z) (sym (events_each (λ inner. all_trace program calls ns inner) (node_trace program calls n fullk)))
+              (like_behind_first R Q P (λ p. events (all_trace program calls ns p)) (flat td) (events (node_trace program calls n fullk)) det (flats rest wt) both one (λ e p l f ans. (rec e p l f ans).0)),
+          (
+            along.1,
+            (
+              like_det R (flat td) (events (node_trace program calls n fullk)) both det,
+              λ ans. let z = first_pair R P (flat td) (events (node_trace program calls n fullk)) both one ans in (rec z.0 z.1.0 z.1.1.0 z.1.1.1 ans).1,
+            ),
+          ),
+        )

@@ -1,6 +1,5 @@
 -- Behind all parallel conjuncts: what they gave, where they have all answered, is one value for each variable.
-use Rattle.std.proofs.Common.{◌≡◌, ◌⊎◌, inl, inr, ℕ, zero, suc, ◌+◌, ◌≤◌, ◌<◌, Bool, true, false, ◌==◌, nat_eq, List, [], ◌∷◌, ◌++◌, length, map, Option, Some, None, refl, ap, sym, subst, ◌∙◌, arith}
-use Rattle.std.specs.Prelude.{⊤}
+use Rattle.std.proofs.Common.{◌≡◌, ◌⊎◌, inl, inr, ℕ, suc, ◌+◌, ◌≤◌, true, false, ◌==◌, nat_eq, List, [], ◌++◌, length, Some, None, ap, sym, subst, ◌∙◌, arith}
 use Rattle.merc_base.specs.Category.{most_of}
 use Rattle.merc_base.specs.declared.category.Most.TheVariants.{Zero}
 use Rattle.merc_tree.specs.declared.declarations.Module.{Module}
@@ -34,11 +33,11 @@ use Rattle.merc_plan.proofs.Judging.{flat, AllAnswer, signals_to, Keeps}
 use Rattle.merc_plan.proofs.Holds.{keeps_gives, keeps_only}
 use Rattle.merc_plan.proofs.Sets.{tell, absent, same_number, append_all, append_none, look_past, look_before}
 use Rattle.merc_script_laws.specs.Parallel.{all_outputs}
-use Rattle.merc_script_laws.proofs.Bonds.{Set, Here, signs, rights_for, Fit, Names, Ready, Used, Planned}
+use Rattle.merc_script_laws.proofs.Bonds.{Set, signs, rights_for, Fit, Names, Ready, Planned}
 use Rattle.merc_script_laws.proofs.Dets.{first_at}
 use Rattle.merc_script_laws.proofs.Members.{Member}
 use Rattle.merc_script_laws.proofs.Cells.{rights_signal}
-use Rattle.merc_script_laws.proofs.Sites.{among_has, nth, same_some as same_node, first_nth, past_nth, nth_low}
+use Rattle.merc_script_laws.proofs.Sites.{nth, same_some as same_node, first_nth, past_nth, nth_low}
 use Rattle.merc_script_laws.proofs.Kids.{own, OwnSign, sign_cases, same_own, own_low, own_sign, moved_sign, signs_cell}
 use Rattle.merc_script_laws.proofs.Conjuncts.{fork, at_next, names_k, own_right}
 use Rattle.merc_script_laws.proofs.Sights.{FineFor, handed, Nonzero, AllSound, AllCertain, sights_next}
@@ -98,13 +97,15 @@ module _ (known : Module) (types i : Instance) (declared : AreGoodTypes known.ty
       pub kid_gave : (x : ℕ) → among (outputs_of n) x ≡ true → (v : Value) × ((c : ℕ) → has c (signs x (kid_hold known types i declared program calls plan split course offers goals outputs w s out b seen here hold distinct free fit ready names_are single fine goes counts at k left bk outk seenk n ns a q sounds.0 certains.0 given)) ≡ true → gift_at c (gives (kid known types i declared program calls plan split course offers goals outputs w s out b seen here hold distinct free fit ready names_are single fine goes counts at k left bk outk seenk n ns a q sounds.0 certains.0 given)) ≡ Some (Some v))
       kid_gave x o =
           let u = kid_end.1.1 in
-          let f = u.moves.fresh x o in
-          (f.0, λ c h.
-            let r = own_right goals outputs w s b here hold distinct free fit ready names_are single fine.exact k left bk n ns a (goal known types i declared program calls plan split course offers goals outputs w s out b seen here hold distinct free fit ready names_are single fine goes counts at k left bk outk seenk n ns a q sounds.0 certains.0 given) (same known types i declared program calls plan split course offers goals outputs w s out b seen here hold distinct free fit ready names_are single fine goes counts at k left bk outk seenk n ns a q sounds.0 certains.0 given) given counts c
+          let f = u.moves.fresh x o in (
+            f.0,
+            λ c h.
+                let r = own_right goals outputs w s b here hold distinct free fit ready names_are single fine.exact k left bk n ns a (goal known types i declared program calls plan split course offers goals outputs w s out b seen here hold distinct free fit ready names_are single fine goes counts at k left bk outk seenk n ns a q sounds.0 certains.0 given) (same known types i declared program calls plan split course offers goals outputs w s out b seen here hold distinct free fit ready names_are single fine goes counts at k left bk outk seenk n ns a q sounds.0 certains.0 given) given counts c
                 (subst (λ l. has c l ≡ true) (sym (rights_signal (site known types i declared program calls plan split course offers goals outputs w s out b seen here hold distinct free fit ready names_are single fine goes counts) k (goal known types i declared program calls plan split course offers goals outputs w s out b seen here hold distinct free fit ready names_are single fine goes counts at k left bk outk seenk n ns a q sounds.0 certains.0 given) hold given)) (signs_cell (kid_hold known types i declared program calls plan split course offers goals outputs w s out b seen here hold distinct free fit ready names_are single fine goes counts at k left bk outk seenk n ns a q sounds.0 certains.0 given) x c h)) in
-            let is = (names_k goals outputs w s b here hold distinct free fit ready names_are single fine.exact k left bk n ns a (goal known types i declared program calls plan split course offers goals outputs w s out b seen here hold distinct free fit ready names_are single fine goes counts at k left bk outk seenk n ns a q sounds.0 certains.0 given) (same known types i declared program calls plan split course offers goals outputs w s out b seen here hold distinct free fit ready names_are single fine goes counts at k left bk outk seenk n ns a q sounds.0 certains.0 given) given).apart r.0 x c r.1.1 h in
-            let v = u.gave x c (subst (λ z. are_for (signals known types i declared program calls plan split course offers goals outputs w s out b seen here hold distinct free fit ready names_are single fine goes counts at k left bk outk seenk n ns a q sounds.0 certains.0 given) z ≡ true) is r.1.0) h in
-            v.1.0 ∙ ap (λ z. Some (Some z)) (same_some (sym v.1.1 ∙ f.1)))
+                let is = (names_k goals outputs w s b here hold distinct free fit ready names_are single fine.exact k left bk n ns a (goal known types i declared program calls plan split course offers goals outputs w s out b seen here hold distinct free fit ready names_are single fine goes counts at k left bk outk seenk n ns a q sounds.0 certains.0 given) (same known types i declared program calls plan split course offers goals outputs w s out b seen here hold distinct free fit ready names_are single fine goes counts at k left bk outk seenk n ns a q sounds.0 certains.0 given) given).apart r.0 x c r.1.1 h in
+                let v = u.gave x c (subst (λ z. are_for (signals known types i declared program calls plan split course offers goals outputs w s out b seen here hold distinct free fit ready names_are single fine goes counts at k left bk outk seenk n ns a q sounds.0 certains.0 given) z ≡ true) is r.1.0) h in
+                v.1.0 ∙ ap (λ z. Some (Some z)) (same_some (sym v.1.1 ∙ f.1)),
+          )
 
     pub kids_some : (ns : Nodes) (at k : ℕ) (left : List ℕ) (bk : Bound) (outk : Variables) (seenk : Known) → Stands known types i declared program calls plan split course offers goals outputs w s out b seen here hold distinct free fit ready names_are single fine goes counts k left bk ns → Sees known types i declared program calls plan split course offers goals outputs w s out b seen here hold distinct free fit ready names_are single fine goes counts k left bk outk seenk ns → AllSound known types i declared outk bk seenk ns → AllCertain known types i declared ns
         → Planned plan at (planned_conjuncts k outputs w s left ns) → (given : List Gift) → Proper known types i declared program calls plan split course offers goals outputs w s out b seen here hold distinct free fit ready names_are single fine goes counts k seenk given → AllAnswer (kids known types i declared program calls plan split course offers goals outputs w s out b seen here hold distinct free fit ready names_are single fine goes counts at k left ns given) → Nonzero (conjunction_category (categories (list_of ns)))
@@ -140,33 +141,37 @@ module _ (known : Module) (types i : Instance) (declared : AreGoodTypes known.ty
         let rest = planned_right plan at (forks n) (planned nothing wn sn n) (planned_conjuncts (suc k) outputs w s (left ++ outputs_of n) ns) (planned_count n nothing wn sn) fits in
         on first (tell (nat_eq j k))
         (λ r. kids_gave ns (at + forks n) (suc k) (left ++ outputs_of n) (with bk (among (outputs_of n))) (with outk (in_node n)) (handed (category_at n) (known_behind n seenk) seenk)
-          (at_next goals outputs w s b here hold distinct free fit ready names_are single fine.exact k left bk n ns a) (sights_next known types i declared goals outputs w s out b seen here hold distinct free fit ready names_are single fine k left bk outk seenk n ns a q sounds.0 certains.0) sounds.1 certains.1 rest (given ++ gives (kid known types i declared program calls plan split course offers goals outputs w s out b seen here hold distinct free fit ready names_are single fine goes counts at k left bk outk seenk n ns a q sounds.0 certains.0 given)) (proper_next known types i declared program calls plan split course offers goals outputs w s out b seen here hold distinct free fit ready names_are single fine goes counts at k left bk outk seenk n ns a q sounds.0 certains.0 given proper first) ans.1 j m x r o) where
-      td : BranchCourse
-      td = kid known types i declared program calls plan split course offers goals outputs w s out b seen here hold distinct free fit ready names_are single fine goes counts at k left bk outk seenk n ns a q sounds.0 certains.0 given
-      more : List Gift
-      more = all_give (kids known types i declared program calls plan split course offers goals outputs w s out b seen here hold distinct free fit ready names_are single fine goes counts (at + forks n) (suc k) (left ++ outputs_of n) ns (given ++ gives td))
-      sign_here : (c : ℕ) → SignsFor k x c → has c (signs x (kid_hold known types i declared program calls plan split course offers goals outputs w s out b seen here hold distinct free fit ready names_are single fine goes counts at k left bk outk seenk n ns a q sounds.0 certains.0 given)) ≡ true
-      sign_here c (inl r) = subst (λ y. has y (signs x (kid_hold known types i declared program calls plan split course offers goals outputs w s out b seen here hold distinct free fit ready names_are single fine goes counts at k left bk outk seenk n ns a q sounds.0 certains.0 given)) ≡ true) r.1.1.1.1 (subst (λ y. has r.0.cell (signs y (kid_hold known types i declared program calls plan split course offers goals outputs w s out b seen here hold distinct free fit ready names_are single fine goes counts at k left bk outk seenk n ns a q sounds.0 certains.0 given)) ≡ true) r.1.1.1.0 (own_sign goals outputs w s hold k (goal known types i declared program calls plan split course offers goals outputs w s out b seen here hold distinct free fit ready names_are single fine goes counts at k left bk outk seenk n ns a q sounds.0 certains.0 given) given r.0 r.1.0 r.1.1.0))
-      sign_here c (inr r) = moved_sign goals outputs w s hold k (goal known types i declared program calls plan split course offers goals outputs w s out b seen here hold distinct free fit ready names_are single fine goes counts at k left bk outk seenk n ns a q sounds.0 certains.0 given) given x c r.0 r.1
-      away : (c : ℕ) → suc k ≤ j → SignsFor j x c → rights known types i declared program calls plan split course offers goals outputs w s out b seen here hold distinct free fit ready names_are single fine goes counts at k left bk outk seenk n ns a q sounds.0 certains.0 given c ≡ false
-      away c l r = absent c (signals_to k (fork goals outputs w s b here hold distinct free fit ready names_are single fine.exact)) (λ h.
-          let u = own_right goals outputs w s b here hold distinct free fit ready names_are single fine.exact k left bk n ns a (goal known types i declared program calls plan split course offers goals outputs w s out b seen here hold distinct free fit ready names_are single fine goes counts at k left bk outk seenk n ns a q sounds.0 certains.0 given) (same known types i declared program calls plan split course offers goals outputs w s out b seen here hold distinct free fit ready names_are single fine goes counts at k left bk outk seenk n ns a q sounds.0 certains.0 given) given counts c h in clashes u.0 r (sign_cases goals outputs w s hold k (goal known types i declared program calls plan split course offers goals outputs w s out b seen here hold distinct free fit ready names_are single fine goes counts at k left bk outk seenk n ns a q sounds.0 certains.0 given) given u.0 c u.1.1)) where
-        clashes : (y : ℕ) → SignsFor j x c → OwnSign goals outputs w s hold k (goal known types i declared program calls plan split course offers goals outputs w s out b seen here hold distinct free fit ready names_are single fine goes counts at k left bk outk seenk n ns a q sounds.0 certains.0 given) given y c ⊎ ((child_for true y (site known types i declared program calls plan split course offers goals outputs w s out b seen here hold distinct free fit ready names_are single fine goes counts).moves ≡ Some k) × (has c (signs y hold) ≡ true)) → ⊥
-        clashes y (inl (one, (m, (e, (v, d))))) (inl z) =
-            let same_one = same_own goals outputs w s hold one z.one m z.there (d ∙ sym z.cell) in
-            let f = sym e ∙ ap (λ (t : NamedCell). t.producer) same_one ∙ z.producer in absurd (omega (arith, f, l))
-        clashes y (inl (one, (m, (e, (v, d))))) (inr z) = let g = own_low goals outputs w s hold one m in let h = names_are.low y c z.1 in absurd (omega (arith, g, h, d))
-        clashes y (inr z) (inl g) = let t = own_low goals outputs w s hold g.one g.there in let h = names_are.low x c z.1 in let d = g.cell in absurd (omega (arith, t, h, d))
-        clashes y (inr z) (inr g) =
-            let f = number j k (sym z.0 ∙ subst (λ t. child_for true t (site known types i declared program calls plan split course offers goals outputs w s out b seen here hold distinct free fit ready names_are single fine goes counts).moves ≡ Some k) (names_are.apart y x c g.1 z.1) g.0) in absurd (omega (arith, f, l))
-      on : Planned plan at (planned nothing (waits known types i declared program calls plan split course offers goals outputs w s out b seen here hold distinct free fit ready names_are single fine goes counts at k left bk outk seenk n ns a q sounds.0 certains.0 given) (signals known types i declared program calls plan split course offers goals outputs w s out b seen here hold distinct free fit ready names_are single fine goes counts at k left bk outk seenk n ns a q sounds.0 certains.0 given) n) → (nat_eq j k ≡ true) ⊎ (nat_eq j k ≡ false)
-          → (nth (suc k) j ns ≡ Some m → (v : Value) × ((c : ℕ) → SignsFor j x c → gift_at c more ≡ Some (Some v))) → (v : Value) × ((c : ℕ) → SignsFor j x c → gift_at c (gives td ++ more) ≡ Some (Some v))
-      on first (inl e) rec =
-          let jk = same_number j k e in
-          let is = same_node m n (sym p ∙ ap (λ z. nth k z (more_nodes n ns)) jk ∙ first_nth k n ns) in
-          let g = kid_gave at k left bk outk seenk n ns a q sounds certains given proper first ans.0 x (subst (λ z. among (outputs_of z) x ≡ true) is o) in
-          (g.0, λ c h. look_before c (Some g.0) (gives td) more (g.1 c (sign_here c (subst (λ z. SignsFor z x c) jk h))))
-      on first (inr e) rec =
-          let r = sym (past_nth k j n ns e) ∙ p in
-          let g = rec r in
-          (g.0, λ c h. look_past c (gives td) more (kid_only at k left bk outk seenk n ns a q sounds certains given proper first ans.0 c (away c (nth_low (suc k) j m ns r) h)) ∙ g.1 c h)
+        (at_next goals outputs w s b here hold distinct free fit ready names_are single fine.exact k left bk n ns a) (sights_next known types i declared goals outputs w s out b seen here hold distinct free fit ready names_are single fine k left bk outk seenk n ns a q sounds.0 certains.0) sounds.1 certains.1 rest (given ++ gives (kid known types i declared program calls plan split course offers goals outputs w s out b seen here hold distinct free fit ready names_are single fine goes counts at k left bk outk seenk n ns a q sounds.0 certains.0 given)) (proper_next known types i declared program calls plan split course offers goals outputs w s out b seen here hold distinct free fit ready names_are single fine goes counts at k left bk outk seenk n ns a q sounds.0 certains.0 given proper first) ans.1 j m x r o) where
+          td : BranchCourse
+          td = kid known types i declared program calls plan split course offers goals outputs w s out b seen here hold distinct free fit ready names_are single fine goes counts at k left bk outk seenk n ns a q sounds.0 certains.0 given
+
+          more : List Gift
+          more = all_give (kids known types i declared program calls plan split course offers goals outputs w s out b seen here hold distinct free fit ready names_are single fine goes counts (at + forks n) (suc k) (left ++ outputs_of n) ns (given ++ gives td))
+
+          sign_here : (c : ℕ) → SignsFor k x c → has c (signs x (kid_hold known types i declared program calls plan split course offers goals outputs w s out b seen here hold distinct free fit ready names_are single fine goes counts at k left bk outk seenk n ns a q sounds.0 certains.0 given)) ≡ true
+          sign_here c (inl r) = subst (λ y. has y (signs x (kid_hold known types i declared program calls plan split course offers goals outputs w s out b seen here hold distinct free fit ready names_are single fine goes counts at k left bk outk seenk n ns a q sounds.0 certains.0 given)) ≡ true) r.1.1.1.1 (subst (λ y. has r.0.cell (signs y (kid_hold known types i declared program calls plan split course offers goals outputs w s out b seen here hold distinct free fit ready names_are single fine goes counts at k left bk outk seenk n ns a q sounds.0 certains.0 given)) ≡ true) r.1.1.1.0 (own_sign goals outputs w s hold k (goal known types i declared program calls plan split course offers goals outputs w s out b seen here hold distinct free fit ready names_are single fine goes counts at k left bk outk seenk n ns a q sounds.0 certains.0 given) given r.0 r.1.0 r.1.1.0))
+          sign_here c (inr r) = moved_sign goals outputs w s hold k (goal known types i declared program calls plan split course offers goals outputs w s out b seen here hold distinct free fit ready names_are single fine goes counts at k left bk outk seenk n ns a q sounds.0 certains.0 given) given x c r.0 r.1
+
+          away : (c : ℕ) → suc k ≤ j → SignsFor j x c → rights known types i declared program calls plan split course offers goals outputs w s out b seen here hold distinct free fit ready names_are single fine goes counts at k left bk outk seenk n ns a q sounds.0 certains.0 given c ≡ false
+          away c l r = absent c (signals_to k (fork goals outputs w s b here hold distinct free fit ready names_are single fine.exact)) (λ h.
+              let u = own_right goals outputs w s b here hold distinct free fit ready names_are single fine.exact k left bk n ns a (goal known types i declared program calls plan split course offers goals outputs w s out b seen here hold distinct free fit ready names_are single fine goes counts at k left bk outk seenk n ns a q sounds.0 certains.0 given) (same known types i declared program calls plan split course offers goals outputs w s out b seen here hold distinct free fit ready names_are single fine goes counts at k left bk outk seenk n ns a q sounds.0 certains.0 given) given counts c h in clashes u.0 r (sign_cases goals outputs w s hold k (goal known types i declared program calls plan split course offers goals outputs w s out b seen here hold distinct free fit ready names_are single fine goes counts at k left bk outk seenk n ns a q sounds.0 certains.0 given) given u.0 c u.1.1)) where
+                clashes : (y : ℕ) → SignsFor j x c → OwnSign goals outputs w s hold k (goal known types i declared program calls plan split course offers goals outputs w s out b seen here hold distinct free fit ready names_are single fine goes counts at k left bk outk seenk n ns a q sounds.0 certains.0 given) given y c ⊎ ((child_for true y (site known types i declared program calls plan split course offers goals outputs w s out b seen here hold distinct free fit ready names_are single fine goes counts).moves ≡ Some k) × (has c (signs y hold) ≡ true)) → ⊥
+                clashes y (inl (one, (m, (e, (v, d))))) (inl z) =
+                    let same_one = same_own goals outputs w s hold one z.one m z.there (d ∙ sym z.cell) in
+                    let f = sym e ∙ ap (λ (t : NamedCell). t.producer) same_one ∙ z.producer in absurd (omega (arith, f, l))
+                clashes y (inl (one, (m, (e, (v, d))))) (inr z) = let g = own_low goals outputs w s hold one m in let h = names_are.low y c z.1 in absurd (omega (arith, g, h, d))
+                clashes y (inr z) (inl g) = let t = own_low goals outputs w s hold g.one g.there in let h = names_are.low x c z.1 in let d = g.cell in absurd (omega (arith, t, h, d))
+                clashes y (inr z) (inr g) =
+                    let f = number j k (sym z.0 ∙ subst (λ t. child_for true t (site known types i declared program calls plan split course offers goals outputs w s out b seen here hold distinct free fit ready names_are single fine goes counts).moves ≡ Some k) (names_are.apart y x c g.1 z.1) g.0) in absurd (omega (arith, f, l))
+
+          on : Planned plan at (planned nothing (waits known types i declared program calls plan split course offers goals outputs w s out b seen here hold distinct free fit ready names_are single fine goes counts at k left bk outk seenk n ns a q sounds.0 certains.0 given) (signals known types i declared program calls plan split course offers goals outputs w s out b seen here hold distinct free fit ready names_are single fine goes counts at k left bk outk seenk n ns a q sounds.0 certains.0 given) n) → (nat_eq j k ≡ true) ⊎ (nat_eq j k ≡ false)
+              → (nth (suc k) j ns ≡ Some m → (v : Value) × ((c : ℕ) → SignsFor j x c → gift_at c more ≡ Some (Some v))) → (v : Value) × ((c : ℕ) → SignsFor j x c → gift_at c (gives td ++ more) ≡ Some (Some v))
+          on first (inl e) rec =
+              let jk = same_number j k e in
+              let is = same_node m n (sym p ∙ ap (λ z. nth k z (more_nodes n ns)) jk ∙ first_nth k n ns) in
+              let g = kid_gave at k left bk outk seenk n ns a q sounds certains given proper first ans.0 x (subst (λ z. among (outputs_of z) x ≡ true) is o) in
+              (g.0, λ c h. look_before c (Some g.0) (gives td) more (g.1 c (sign_here c (subst (λ z. SignsFor z x c) jk h))))
+          on first (inr e) rec =
+              let r = sym (past_nth k j n ns e) ∙ p in
+              let g = rec r in
+              (g.0, λ c h. look_past c (gives td) more (kid_only at k left bk outk seenk n ns a q sounds certains given proper first ans.0 c (away c (nth_low (suc k) j m ns r) h)) ∙ g.1 c h)

@@ -1,11 +1,10 @@
 -- A fork fits: its cells, and the rights that move.
-use Rattle.std.proofs.Common.{◌≡◌, ◌⊎◌, inl, inr, ℕ, zero, suc, ◌+◌, ◌≤◌, ◌<◌, Bool, true, false, nat_eq, List, [], ◌∷◌, ◌++◌, length, map, filter, flat_map, Option, Some, None, refl, ap, sym, subst, ◌∙◌, arith}
+use Rattle.std.proofs.Common.{◌≡◌, ◌⊎◌, inl, inr, ℕ, suc, ◌+◌, ◌≤◌, ◌<◌, Bool, true, false, List, [], ◌∷◌, ◌++◌, map, filter, flat_map, Option, Some, None, refl, ap, sym, subst, ◌∙◌, arith}
 use Rattle.std.specs.List.{AllByRecursion}
 use Rattle.merc_graded_tree.specs.declared.basic.Procedure.{Procedure}
 use Rattle.merc_graded_tree.specs.Nodes.{Node, Nodes, no_nodes, more_nodes, outputs_of}
 use Rattle.merc_graded_tree.specs.Variables.{among, in_node}
 use Rattle.merc_meaning.specs.Runs.{Program}
-use Rattle.merc_value.specs.Value.{Value}
 use Rattle.merc_script.specs.declared.cells.Move.{Move}
 use Rattle.merc_core.specs.Rights.{has, moved}
 use Rattle.merc_core.specs.WellFormed.{AreDistinct}
@@ -14,17 +13,17 @@ use Rattle.merc_par_split.specs.declared.sites.CellInfo.{CellInfo}
 use Rattle.merc_par_split.specs.declared.sites.Moved.{Moved}
 use Rattle.merc_par_split.specs.declared.sites.SiteInfo.{SiteInfo}
 use Rattle.merc_par_split.specs.Rights.{Right}
-use Rattle.merc_par_split.specs.Sites.{count, are_for, cells_of, signal_moves, wait_moves}
-use Rattle.merc_par_split.specs.Split.{placed, placed_conjuncts}
-use Rattle.merc_plan.specs.Branch.{HeldWait, HeldSignal, Hold, NamedCell, Fork, names, Gift, gift_at, BranchCourse, gives}
-use Rattle.merc_plan.specs.Hold.{named, child_for, moves_if, moves_from, fork_of}
-use Rattle.merc_plan.specs.Branches.{Plan, node_branch, conjunct_branches}
-use Rattle.merc_plan.proofs.Judging.{kid_count, NamedFits, MoveGoes, HoldsRight, SiteFits, OwnFits}
+use Rattle.merc_par_split.specs.Sites.{count, signal_moves, wait_moves}
+use Rattle.merc_par_split.specs.Split.{placed_conjuncts}
+use Rattle.merc_plan.specs.Branch.{HeldWait, HeldSignal, Hold, NamedCell, Fork, names, Gift, BranchCourse}
+use Rattle.merc_plan.specs.Hold.{child_for, moves_if, moves_from, fork_of}
+use Rattle.merc_plan.specs.Branches.{Plan, conjunct_branches}
+use Rattle.merc_plan.proofs.Judging.{kid_count, NamedFits, MoveGoes, SiteFits, OwnFits}
 use Rattle.merc_script_laws.specs.Parallel.{most_conjuncts}
-use Rattle.merc_script_laws.proofs.Bonds.{Owed, signs, Names, Rightful}
+use Rattle.merc_script_laws.proofs.Bonds.{Names, Rightful}
 use Rattle.merc_script_laws.proofs.Members.{Member, member_either, joined_from, each_member, distinct_passing}
 use Rattle.merc_script_laws.proofs.Cells.{names_distinct, name_low, name_apart, goes, signals_moved, waits_moved}
-use Rattle.merc_script_laws.proofs.Sites.{nth, nth_low, nth_high, Fact}
+use Rattle.merc_script_laws.proofs.Sites.{nth, nth_low, nth_high}
 use Rattle.merc_script_laws.proofs.SiteMoves.{signal_child, wait_child}
 use Rattle.merc_script_laws.proofs.Kids.{member_signs, member_owed, low_signals, low_waits, info, cells, own, fact_of}
 
@@ -44,8 +43,10 @@ pub move_of : (moves : List Moved) (hold : Hold) (m : Move) → Member m (moves_
 move_of moves hold m h = on (member_either m signals waits h) where
   signals : List Move
   signals = flat_map (λ (right : HeldSignal). moves_if true right.cell (child_for true right.variable moves)) hold.signals
+
   waits : List Move
   waits = flat_map (λ (right : HeldWait). moves_if false right.cell (child_for false right.variable moves)) hold.waits
+
   on : Member m signals ⊎ Member m waits → SignalMoves moves hold m ⊎ WaitMoves moves hold m
   on (inl i) =
       let r = joined_from (λ (right : HeldSignal). moves_if true right.cell (child_for true right.variable moves)) m hold.signals i in
@@ -68,18 +69,19 @@ module _ (goals : Nodes) (outputs : List ℕ) (w s : List Right) (hold : Hold) (
 
   pub cells_fit : AllByRecursion (NamedFits (count goals)) (own goals outputs w s hold)
   cells_fit = each_member (NamedFits (count goals)) (own goals outputs w s hold) (λ one m.
-    let f = fact_of goals outputs w s hold one m in
-    let p = in_range f.0.producer f.1.0.maker f.1.0.is_maker in
-    (subst (λ z. 1 ≤ z) (sym f.1.1.1.0) p.0, (subst (λ z. z ≤ count goals) (sym f.1.1.1.0) p.1, user one f.0 f.1.1.1.0 f.1.1.1.1 f.1.0.user))) where
-    user : (one : NamedCell) (z : CellInfo) → one.producer ≡ z.producer → one.consumer ≡ z.consumer
-        → ((z.consumer ≡ 0) × (among outputs z.variable ≡ true)) ⊎ ((z.producer < z.consumer) × ((m : Node) × ((nth 1 z.consumer goals ≡ Some m) × (in_node m z.variable ≡ true)))) → (one.consumer ≡ 0) ⊎ ((one.producer < one.consumer) × (one.consumer ≤ count goals))
-    user one z p c (inl h) = inl (c ∙ h.0)
-    user one z p c (inr h) = let l = h.0 in let u = (in_range z.consumer h.1.0 h.1.1.0).1 in inr (omega (arith, l, p, c), omega (arith, u, c))
+      let f = fact_of goals outputs w s hold one m in
+      let p = in_range f.0.producer f.1.0.maker f.1.0.is_maker in
+      (subst (λ z. 1 ≤ z) (sym f.1.1.1.0) p.0, (subst (λ z. z ≤ count goals) (sym f.1.1.1.0) p.1, user one f.0 f.1.1.1.0 f.1.1.1.1 f.1.0.user))) where
+        user : (one : NamedCell) (z : CellInfo) → one.producer ≡ z.producer → one.consumer ≡ z.consumer
+            → ((z.consumer ≡ 0) × (among outputs z.variable ≡ true)) ⊎ ((z.producer < z.consumer) × ((m : Node) × ((nth 1 z.consumer goals ≡ Some m) × (in_node m z.variable ≡ true)))) → (one.consumer ≡ 0) ⊎ ((one.producer < one.consumer) × (one.consumer ≤ count goals))
+        user one z p c (inl h) = inl (c ∙ h.0)
+        user one z p c (inr h) = let l = h.0 in let u = (in_range z.consumer h.1.0 h.1.1.0).1 in inr (omega (arith, l, p, c), omega (arith, u, c))
 
   pub moves_once : (AreDistinct (moved true here_fork.moves)) × (AreDistinct (moved false here_fork.moves))
   moves_once = (
     subst AreDistinct (sym (signals_moved here_moves hold)) (distinct_passing (λ (right : HeldSignal). right.cell) (λ (right : HeldSignal). goes (child_for true right.variable here_moves)) hold.signals names_are.cells),
-    subst AreDistinct (sym (waits_moved here_moves hold)) (distinct_passing (λ (right : HeldWait). right.cell) (λ (right : HeldWait). goes (child_for false right.variable here_moves)) hold.waits names_are.wait_cells))
+    subst AreDistinct (sym (waits_moved here_moves hold)) (distinct_passing (λ (right : HeldWait). right.cell) (λ (right : HeldWait). goes (child_for false right.variable here_moves)) hold.waits names_are.wait_cells),
+  )
 
   low_move : (m : Move) → SignalMoves here_moves hold m ⊎ WaitMoves here_moves hold m → m.cell < hold.next
   low_move m (inl q) = subst (λ (z : Move). z.cell < hold.next) (sym q.1.1.1.1) (low_signals hold names_are q.0 q.1.0)

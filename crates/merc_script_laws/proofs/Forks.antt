@@ -1,18 +1,16 @@
 -- A parallel conjunction as a goal: waits before the fork for what stays, the fork, and the waits for what its conjuncts bind.
-use Rattle.std.proofs.Common.{◌≡◌, ◌⊎◌, inl, inr, ℕ, zero, suc, ◌+◌, ◌≤◌, ◌<◌, Bool, true, false, not, ◌==◌, List, [], ◌∷◌, ◌++◌, length, map, filter, Option, Some, None, slice_get, refl, ap, sym, subst, ◌∙◌, arith}
+use Rattle.std.proofs.Common.{◌≡◌, ◌⊎◌, inl, inr, ℕ, suc, ◌+◌, ◌<◌, Bool, true, false, not, ◌==◌, List, [], ◌∷◌, ◌++◌, length, map, filter, Option, Some, refl, ap, sym, subst, ◌∙◌, arith}
 use Rattle.std.specs.List.{AllByRecursion}
-use Rattle.merc_base.specs.Category.{can_fail_of, most_of}
+use Rattle.merc_base.specs.Category.{most_of}
 use Rattle.merc_base.specs.declared.category.Category.{Category}
 use Rattle.merc_base.specs.declared.category.Most.TheVariants.{Zero}
 use Rattle.merc_base.specs.declared.place.Span.{Span}
 use Rattle.merc_base.specs.declared.refusal.Refusal.{Refusal}
-use Rattle.merc_tree.specs.Types.{replaced}
 use Rattle.merc_tree.specs.declared.declarations.Module.{Module}
-use Rattle.merc_goal_tree.specs.declared.goal.Symbol.{Symbol}
 use Rattle.merc_graded_tree.specs.declared.basic.Procedure.{Procedure}
 use Rattle.merc_graded_tree.specs.declared.entries.Running.TheVariants.{Parallel}
 use Rattle.merc_graded_tree.specs.declared.basic.Site.{Site}
-use Rattle.merc_graded_tree.specs.Nodes.{Node, node, Conjunction, Nodes, no_nodes, more_nodes, nodes_of, list_of, outputs_of, category_of}
+use Rattle.merc_graded_tree.specs.Nodes.{Node, node, Conjunction, Nodes, no_nodes, more_nodes, list_of, outputs_of, category_of}
 use Rattle.merc_graded_tree.specs.Variables.{among, in_node, in_nodes}
 use Rattle.merc_order.specs.Bound.{Bound, with}
 use Rattle.merc_order.specs.Procedures.{modes_of}
@@ -21,15 +19,12 @@ use Rattle.merc_order_laws.specs.GoodTree.{GoodNodes}
 use Rattle.merc_order_laws.specs.WrittenGoals.{basic_goals, all_basic_goals}
 use Rattle.merc_order_laws.proofs.Written.{all_left, all_right}
 use Rattle.merc_grading.specs.Categories.{conjunction_category}
-use Rattle.merc_grading.specs.Faults.{runs_beside, parallel_faults, all_faults}
-use Rattle.merc_grading.specs.Known.{Known, known_of, known_behind, known_behind_all}
+use Rattle.merc_grading.specs.Faults.{parallel_faults, all_faults}
+use Rattle.merc_grading.specs.Known.{Known, known_behind, known_behind_all}
 use Rattle.merc_grading.specs.Grading.{given, category_at, categories}
-use Rattle.merc_value.specs.Value.{Value, Values}
+use Rattle.merc_value.specs.Value.{Value}
 use Rattle.merc_meaning.specs.Trace.{Env, Trace}
-use Rattle.merc_meaning.specs.Values.{fields}
-use Rattle.merc_meaning.specs.Steps.{value_at}
 use Rattle.merc_meaning.specs.Runs.{Program, answers_once, node_trace, all_trace}
-use Rattle.merc_program_laws.specs.ValueTypes.{HasType}
 use Rattle.merc_program_laws.specs.GoodPrograms.{AreGoodTypes}
 use Rattle.merc_program_laws.proofs.Values.{Instance}
 use Rattle.merc_program_laws.proofs.Lawful.{Fits}
@@ -43,10 +38,10 @@ use Rattle.merc_par_split.specs.declared.sites.SiteInfo.{SiteInfo}
 use Rattle.merc_par_split.specs.Rights.{Right, right_to, those, wait_at, between}
 use Rattle.merc_par_split.specs.Sites.{are_for, site_info, planned_goal, planned_conjuncts}
 use Rattle.merc_par_split.specs.Split.{moves_in, placed_goal, placed_conjuncts}
-use Rattle.merc_plan.specs.Branch.{HeldSignal, Hold, Fork, BranchCourse, BranchCourses, Over, Finds, Forks, Gift, gift_at, after, each, first_alone}
+use Rattle.merc_plan.specs.Branch.{HeldSignal, Hold, Fork, BranchCourse, BranchCourses, Over, Finds, Forks, Gift, each}
 use Rattle.merc_plan.specs.Hold.{fork_of, hold_behind}
 use Rattle.merc_plan.specs.Branches.{Plan, once_if, info_of, node_branch, conjunct_branches, conjunct_gifts}
-use Rattle.merc_plan.proofs.Flat.{Flat, Like, events, once_if as flat_once_if}
+use Rattle.merc_plan.proofs.Flat.{Like, events, once_if as flat_once_if}
 use Rattle.merc_plan.proofs.Judging.{flat, Sure, Keeps, Quiet}
 use Rattle.merc_plan.proofs.Likes.{like_once, like_more}
 use Rattle.merc_plan.proofs.Flats.{flat_once, sure_once}
@@ -54,16 +49,16 @@ use Rattle.merc_plan.proofs.Events.{events_once}
 use Rattle.merc_plan.proofs.Holds.{keeps_once, keeps_end, quiet_once}
 use Rattle.merc_plan.proofs.Sets.{tell}
 use Rattle.merc_script_laws.specs.Parallel.{all_outputs, AllKeepOutputs, AllHaveFew}
-use Rattle.merc_script_laws.proofs.Bonds.{Set, Here, Owed, signs, rights_for, Within, AllUsed, Fit, Match, Names, Moves, Ready, Fine, After, Ends, Used, Rightful, here_or, Parts, Planned, Sound, Proper}
-use Rattle.merc_script_laws.proofs.RightLists.{those_in, in_those, those_once, variables_of, is_not, not_not}
-use Rattle.merc_script_laws.proofs.Steps.{always, Waits, IsIn, AreApart, fit_waited, match_waited, ready_waited, moves_waited, fine_waited, after_waited}
+use Rattle.merc_script_laws.proofs.Bonds.{Set, Here, signs, rights_for, Within, AllUsed, Fit, Match, Names, Ready, Fine, After, Ends, Used, Rightful, here_or, Parts, Planned, Sound, Proper}
+use Rattle.merc_script_laws.proofs.RightLists.{those_in, in_those, those_once, is_not, not_not}
+use Rattle.merc_script_laws.proofs.Steps.{Waits, IsIn, AreApart, fit_waited, match_waited, ready_waited, moves_waited, fine_waited, after_waited}
 use Rattle.merc_script_laws.proofs.Holding.{waitable}
-use Rattle.merc_script_laws.proofs.Around.{after_over, in_turn, waiting, waits_none, waits_flat, StillWaits, waits_keeps}
+use Rattle.merc_script_laws.proofs.Around.{after_over, in_turn, waiting, waits_flat, StillWaits, waits_keeps}
 use Rattle.merc_script_laws.proofs.Sides.{fit_less, match_less}
 use Rattle.merc_script_laws.proofs.Dets.{AllBeside, conjunct_sure, conjuncts_beside}
-use Rattle.merc_script_laws.proofs.Sites.{among_has, has_among}
+use Rattle.merc_script_laws.proofs.Sites.{among_has}
 use Rattle.merc_script_laws.proofs.SiteMoves.{outputs_free, outputs_distinct}
-use Rattle.merc_script_laws.proofs.Sights.{FineFor, fine_for, fits_for, Nonzero, AllSound, AllCertain}
+use Rattle.merc_script_laws.proofs.Sights.{fine_for, fits_for, AllSound, AllCertain}
 use Rattle.merc_script_laws.proofs.ConjunctsKeep.{GivesProper, EachGoes}
 use Rattle.merc_script_laws.proofs.Behind.{empty_fine, empty_fits}
 use Rattle.merc_script_laws.proofs.ForkUses.{unit, unit_along, unit_keeps, unit_quiet}
@@ -106,9 +101,10 @@ module _ (known : Module) (types i : Instance) (declared : AreGoodTypes known.ty
       → AllByRecursion (IsPart known types i) (all_basic_goals ns) → AllKeepOutputs (modes_of known.preds) ns → all_faults ns ≡ [] → AllHaveFew ns → AllSound known types i declared out b seen ns
   all_sound unknown no_nodes out b seen good graded parts keeps none few = tt
   all_sound unknown (more_nodes n ns) out b seen good graded parts keeps none few =
-      let faults = both_none (parallel_faults n) (all_faults ns) none in
-      (record { good = good.0; graded = graded.0; parts = all_left (IsPart known types i) (basic_goals n) (all_basic_goals ns) parts; parallel = record { outputs = keeps.0; beside = faults.0; few = few.0 } },
-      all_sound unknown ns _ _ _ good.1 graded.1 (all_right (IsPart known types i) (basic_goals n) (all_basic_goals ns) parts) keeps.1 faults.1 few.1)
+      let faults = both_none (parallel_faults n) (all_faults ns) none in (
+        record { good = good.0; graded = graded.0; parts = all_left (IsPart known types i) (basic_goals n) (all_basic_goals ns) parts; parallel = record { outputs = keeps.0; beside = faults.0; few = few.0 } },
+        all_sound unknown ns _ _ _ good.1 graded.1 (all_right (IsPart known types i) (basic_goals n) (all_basic_goals ns) parts) keeps.1 faults.1 few.1,
+      )
 
   all_certain : (ns : Nodes) → AllBeside ns → AllCertain known types i declared ns
   all_certain no_nodes h = tt
@@ -152,7 +148,7 @@ module _ (known : Module) (types i : Instance) (declared : AreGoodTypes known.ty
     fork_is : (w s : List Right) (hold : Hold) → plan at ≡ Some (site_info outputs w s goals) → in_turn plan split course span (forking w s ∷ output_goals) hold ≡ branch_from w s (Some (site_info outputs w s goals)) hold
     fork_is w s hold e =
         goes_behind once (λ inner. in_turn plan split course span output_goals inner) at (fork_of (info_of (plan at)) hold) (conjunct_branches plan split course (info_of (plan at)) hold 1 (placed_conjuncts (suc at) 1 outputs w s [] goals) [])
-          (hold_behind (info_of (plan at)) hold (conjunct_gifts plan split course (info_of (plan at)) hold 1 (placed_conjuncts (suc at) 1 outputs w s [] goals) []))
+        (hold_behind (info_of (plan at)) hold (conjunct_gifts plan split course (info_of (plan at)) hold 1 (placed_conjuncts (suc at) 1 outputs w s [] goals) []))
         ∙ ap (λ (o : Option SiteInfo). branch_from w s o hold) e
 
     here_site : (later : ℕ → Bool) (w s : List Right) → due later w s → plan at ≡ Some (site_info outputs (moving later w) s goals)
@@ -229,20 +225,21 @@ module _ (known : Module) (types i : Instance) (declared : AreGoodTypes known.ty
           let counts1 : Counted s hold1 = λ x h. counts x h ∙ ap length (sym (same_signs hold hold1 a.waits.signals x)) in
           let empty1 : (x : ℕ) (v : Value) → among outputs x ≡ true → Here hold1 x v → ⊥ = empty_fits known types i out b whole sound.good seen hold1 w2 full fits match1 in
           let u = unit_along known types i declared program calls lawful plan split course offers goals outputs w2 s later out b seen here1 hold1 distinct free fit1 ready1 names1 (does_move later w) fine1 goes counts1 covered sound.good.1 empty1 within
-              sound.parallel.few.0 sound.parallel.few.1.0 sounds certains at (next_sites later w s p) span besides.0 full match1 fits in
+          sound.parallel.few.0 sound.parallel.few.1.0 sounds certains at (next_sites later w s p) span besides.0 full match1 fits in
           let R : Hold → Env → Type 0 = Ends full here w s later outputs hold in
           let moved : (e : Hold) (f : Env) → Ends full here1 w2 s later outputs hold1 e f → R e f = λ e f k.
-              (moves_waited b here w w1 w2 hold hold1 (parts later w) (stay_in later w) (move_in later w) (sides later w) s later outputs e a.waits.moves k.0, k.1) in
+          (moves_waited b here w w1 w2 hold hold1 (parts later w) (stay_in later w) (move_in later w) (sides later w) s later outputs e a.waits.moves k.0, k.1) in
           let t = waiting plan split course span w1 (forking w2 s ∷ output_goals) hold in
           let is = fork_is w2 s hold1 (here_site later w s p) in
           let sure : Sure t = a.is_sure (subst (λ z. Sure z) (sym is) u.1) in
           let like : Like R (flat t) (events (all_trace program calls goals full)) = subst (λ z. Like R z (events (all_trace program calls goals full))) (sym (a.is_flat ∙ ap flat is))
-              (like_more (Ends full here1 w2 s later outputs hold1) R moved (flat (unit known types i declared program calls lawful plan split course offers goals outputs w2 s later out b seen here1 hold1 distinct free fit1 ready1 names1 (does_move later w) fine1 goes counts1 covered sound.good.1 empty1 within sound.parallel.few.0 sound.parallel.few.1.0 sounds certains at (next_sites later w s p) span))
-                (events (all_trace program calls goals full)) u.0) in
-          subst (λ z. Like R (flat z) (events (node_trace program calls whole full)) × Sure z) (sym (between_branch w2 s w1 output_goals hold))
-          (subst (λ z. Like R z (events (node_trace program calls whole full))) (sym (flat_once once t sure))
-            (subst (λ z. Like R (flat_once_if once (flat t)) z) (sym (events_once once (all_trace program calls goals full))) (like_once R once (flat t) (events (all_trace program calls goals full)) like)),
-          sure_once once t sure)
+          (like_more (Ends full here1 w2 s later outputs hold1) R moved (flat (unit known types i declared program calls lawful plan split course offers goals outputs w2 s later out b seen here1 hold1 distinct free fit1 ready1 names1 (does_move later w) fine1 goes counts1 covered sound.good.1 empty1 within sound.parallel.few.0 sound.parallel.few.1.0 sounds certains at (next_sites later w s p) span))
+          (events (all_trace program calls goals full)) u.0) in
+          subst (λ z. Like R (flat z) (events (node_trace program calls whole full)) × Sure z) (sym (between_branch w2 s w1 output_goals hold)) (
+            subst (λ z. Like R z (events (node_trace program calls whole full))) (sym (flat_once once t sure))
+                (subst (λ z. Like R (flat_once_if once (flat t)) z) (sym (events_once once (all_trace program calls goals full))) (like_once R once (flat t) (events (all_trace program calls goals full)) like)),
+            sure_once once t sure,
+          )
 
       -- Up to its first answer.
       module _ (later : ℕ → Bool) (w s : List Right) (here : Set) (hold : Hold) (rights : ℕ → Bool) (held : List ℕ) (g : List Gift) (proper : ℕ → Value → Type 0) (is_proper : Proper known types i seen whole s hold proper) (p : due later w s)
@@ -297,13 +294,13 @@ module _ (known : Module) (types i : Instance) (declared : AreGoodTypes known.ty
           inner = subst (λ z. Keeps proper End rights held1 g z) (sym (fork_is (moving later w) s hold1 (here_site later w s p)))
               (keeps_end proper End Inside rights ends
               (unit known types i declared program calls lawful plan split course offers goals outputs (moving later w) s later out b seen (here_or here (staying later w)) hold1 distinct free fit1 (ready_waited b here w (staying later w) (moving later w) hold hold1 (parts later w) (stay_in later w) (move_in later w) (sides later w) (in_nodes goals) ready) (m.moves.names names) (does_move later w)
-                (fine_for known types i declared out b (in_nodes goals) seen (moving later w) hold1 fine1) goes q1.counts covered sound.good.1 (empty_fine known types i out b whole sound.good seen hold1 fine1) q.within sound.parallel.few.0 sound.parallel.few.1.0 sounds certains at
-                (next_sites later w s p) span)
+              (fine_for known types i declared out b (in_nodes goals) seen (moving later w) hold1 fine1) goes q1.counts covered sound.good.1 (empty_fine known types i out b whole sound.good seen hold1 fine1) q.within sound.parallel.few.0 sound.parallel.few.1.0 sounds certains at
+              (next_sites later w s p) span)
               held1 g
               (unit_keeps known types i declared program calls lawful plan split course offers goals outputs (moving later w) s later out b seen (here_or here (staying later w)) hold1 distinct free fit1 (ready_waited b here w (staying later w) (moving later w) hold hold1 (parts later w) (stay_in later w) (move_in later w) (sides later w) (in_nodes goals) ready) (m.moves.names names) (does_move later w)
-                (fine_for known types i declared out b (in_nodes goals) seen (moving later w) hold1 fine1) goes q1.counts covered sound.good.1 (empty_fine known types i out b whole sound.good seen hold1 fine1) q.within sound.parallel.few.0 sound.parallel.few.1.0 sounds certains at
-                (next_sites later w s p) span sound.good.2.0 sound.good.2.1 sound.good.0 rights held1 g proper q1
-                (λ x c v h k t f. is_proper x c v h (back x c k) t (λ some sy e. f (λ z. some (zero_whole z)) sy e)) (most_of (category_at whole) ≡ Zero) whole_zero))
+              (fine_for known types i declared out b (in_nodes goals) seen (moving later w) hold1 fine1) goes q1.counts covered sound.good.1 (empty_fine known types i out b whole sound.good seen hold1 fine1) q.within sound.parallel.few.0 sound.parallel.few.1.0 sounds certains at
+              (next_sites later w s p) span sound.good.2.0 sound.good.2.1 sound.good.0 rights held1 g proper q1
+              (λ x c v h k t f. is_proper x c v h (back x c k) t (λ some sy e. f (λ z. some (zero_whole z)) sy e)) (most_of (category_at whole) ≡ Zero) whole_zero))
 
         pub par_uses : Keeps proper (Used (After known types i out b outputs (in_node whole) seen (known_behind whole seen) hold) (most_of (category_at whole) ≡ Zero) here w s later outputs hold held g) rights held g (node_branch plan split course (made later w s) hold)
         par_uses =
@@ -313,7 +310,7 @@ module _ (known : Module) (types i : Instance) (declared : AreGoodTypes known.ty
             subst (λ z. Keeps proper End rights held g z) (sym (between_branch w2 s w1 output_goals hold))
             (keeps_once proper End rights once (waiting plan split course span w1 (forking w2 s ∷ output_goals) hold) held g
             (waits_keeps plan split course span proper End rights w1 b here hold (forking w2 s ∷ output_goals) held g (waitable hold names) (fit_less b here w w1 hold (stay_in later w) d1 fit)
-              (λ x c o h e. q.to_wait x c o (stay_in later w x h) e) (λ hold1 held1 m still. inner hold1 held1 m still)))
+            (λ x c o h e. q.to_wait x c o (stay_in later w x h) e) (λ hold1 held1 m still. inner hold1 held1 m still)))
 
       -- Where nothing moves into it.
       pub par_quiet : (later : ℕ → Bool) (here : Set) (hold : Hold) → due later [] [] → Fine known types i out b (in_node whole) seen hold → Fit b here [] hold → Ready here [] b (in_node whole) → Names hold
@@ -324,7 +321,7 @@ module _ (known : Module) (types i : Instance) (declared : AreGoodTypes known.ty
           (quiet_once hold.next once (in_turn plan split course span (forking [] [] ∷ output_goals) hold) []
           (subst (λ z. Quiet hold.next [] z) (sym (fork_is [] [] hold (here_site later [] [] p)))
           (unit_quiet known types i declared program calls lawful plan split course offers goals outputs [] [] later out b seen here hold distinct free fit ready names (λ x h. absurd (none x h)) (fine_for known types i declared out b (in_nodes goals) seen [] hold fine) goes (λ x h. absurd (none x h)) covered sound.good.1
-            (empty_fine known types i out b whole sound.good seen hold fine) (λ x h. absurd (none x h)) sound.parallel.few.0 sound.parallel.few.1.0 sounds certains at (next_sites later [] [] p) span refl refl)))
+          (empty_fine known types i out b whole sound.good seen hold fine) (λ x h. absurd (none x h)) sound.parallel.few.0 sound.parallel.few.1.0 sounds certains at (next_sites later [] [] p) span refl refl)))
 
     pub par_rated : (later : ℕ → Bool) (w s : List Right) → category_of (made later w s) ≡ category
     par_rated later w s = between_category (staying later w) output_goals (forking (moving later w) s)

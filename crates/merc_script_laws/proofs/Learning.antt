@@ -42,13 +42,13 @@ module _ (modes : ℕ → List ModeDecl) where
   learns_basic (Assign to from) seen out b outs good x s o e =
       known_copied to x (known_of seen from) s seen e
       (λ p. inr (subst (λ z. with b (among outs) z ≡ true) p
-        (sym (good.2 to (among_here to (from ∷ [])) (subst (λ z. out z ≡ true) (sym p) o)) ∙ or_right (b to) (among (to ∷ []) to) (among_here to []))))
+      (sym (good.2 to (among_here to (from ∷ [])) (subst (λ z. out z ≡ true) (sym p) o)) ∙ or_right (b to) (among (to ∷ []) to) (among_here to []))))
       (λ k. inl k)
   learns_basic (Test y z) seen out b outs good x s o e = inl e
   learns_basic (Build whole t args) seen out b outs good x s o e =
       known_more whole x t s seen e
       (λ p q. inr (subst (λ z. with b (among outs) z ≡ true) p
-        (sym (good.2 whole (among_here whole args) (subst (λ z. out z ≡ true) (sym p) o)) ∙ or_right (b whole) (among (whole ∷ []) whole) (among_here whole []))))
+      (sym (good.2 whole (among_here whole args) (subst (λ z. out z ≡ true) (sym p) o)) ∙ or_right (b whole) (among (whole ∷ []) whole) (among_here whole []))))
       (λ k. inl k)
   learns_basic (Split whole t args) seen out b outs good x s o e =
       known_more whole x t s seen e (λ p q. inr (or_left (b x) (among outs x) (subst (λ z. b z ≡ true) p good.0))) (λ k. inl k)

@@ -1,7 +1,6 @@
 -- What parallel conjuncts know, and that what they are given is of its type and has the symbols that are known of it.
-use Rattle.std.proofs.Common.{◌≡◌, ◌⊎◌, inl, inr, ℕ, zero, suc, ◌+◌, ◌≤◌, ◌<◌, Bool, true, false, not, ◌==◌, ◌||◌, if◌then◌else◌, nat_eq, List, [], ◌∷◌, ◌++◌, length, map, Option, Some, None, refl, ap, sym, subst, ◌∙◌, arith}
+use Rattle.std.proofs.Common.{◌≡◌, ◌⊎◌, inl, inr, ℕ, suc, ◌+◌, ◌<◌, true, false, ◌==◌, if◌then◌else◌, List, [], ◌++◌, length, Option, Some, None, refl, ap, sym, subst, ◌∙◌}
 use Rattle.std.specs.Prelude.{⊤}
-use Rattle.std.specs.List.{AllByRecursion}
 use Rattle.merc_base.specs.Category.{can_fail_of, most_of}
 use Rattle.merc_base.specs.declared.category.Category.{Category}
 use Rattle.merc_base.specs.declared.category.Most.{Most}
@@ -32,17 +31,17 @@ use Rattle.merc_par_split.specs.Rights.{Right, users}
 use Rattle.merc_par_split.specs.Sites.{are_for}
 use Rattle.merc_plan.specs.Branch.{Hold, NamedCell, names, Gift, gift_at, value_given}
 use Rattle.merc_plan.specs.Hold.{child_for}
-use Rattle.merc_plan.proofs.Sets.{clash, tell, or_left, or_right, in_left, in_right, look_past, look_before, in_either}
+use Rattle.merc_plan.proofs.Sets.{tell, or_left, or_right, look_past, look_before, in_either}
 use Rattle.merc_script_laws.specs.Parallel.{all_outputs}
 use Rattle.merc_script_laws.proofs.Bonds.{Set, Here, Owed, Fit, Match, Names, Ready, Fine, Sound}
-use Rattle.merc_script_laws.proofs.Members.{Member, is_numbered, distinct_apart}
-use Rattle.merc_script_laws.proofs.Sites.{among_has, has_among, nth, first_nth, nth_in}
+use Rattle.merc_script_laws.proofs.Members.{Member}
+use Rattle.merc_script_laws.proofs.Sites.{has_among, first_nth, nth_in}
 use Rattle.merc_script_laws.proofs.SiteMoves.{good_occurs, wait_child}
 use Rattle.merc_script_laws.proofs.Seen.{behind_other}
-use Rattle.merc_script_laws.proofs.StaticKnown.{KnownBefore, HasAlways, static_known}
+use Rattle.merc_script_laws.proofs.StaticKnown.{KnownBefore, static_known}
 use Rattle.merc_script_laws.proofs.Learning.{learns}
-use Rattle.merc_script_laws.proofs.Kids.{info, own, OwnSign, OwnWait, sign_cases, same_own, own_low, kid_here}
-use Rattle.merc_script_laws.proofs.Conjuncts.{At, at_next, hold_k, sk, this_one, cases_k, known_k, binds_sign}
+use Rattle.merc_script_laws.proofs.Kids.{info, own, OwnWait, kid_here}
+use Rattle.merc_script_laws.proofs.Conjuncts.{At, hold_k, this_one, cases_k}
 
 -- what a conjunct of this category hands on to those to its right
 abbrev pub handed : Category → Known → Known → Known
@@ -63,6 +62,7 @@ pub gift_sides : (c : ℕ) (v : Value) (g h : List Gift) → gift_at c (g ++ h) 
 gift_sides c v g h e = on (gift_at c g) refl where
   same : (o : Option Value) → gift_at c g ≡ Some o → Some o ≡ Some (Some v)
   same o q = sym (look_before c o g h q) ∙ e
+
   on : (o : Option (Option Value)) → gift_at c g ≡ o → (gift_at c g ≡ Some (Some v)) ⊎ ((gift_at c g ≡ None) × (gift_at c h ≡ Some (Some v)))
   on None q = inr (q, sym (look_past c g h q) ∙ e)
   on (Some o) q = inl (q ∙ same o q)
@@ -135,18 +135,21 @@ module _ (known : Module) (types i : Instance) (declared : AreGoodTypes known.ty
   static_rest (more_nodes n ns) out b seen sound certain some x h s e =
       on (zero_or (category_at n) (known_behind n seen) seen)
       (λ p. static_rest ns (with out (in_node n)) (with b (among (outputs_of n))) (known_behind n seen) (subst (λ z. AllSound (with out (in_node n)) (with b (among (outputs_of n))) z ns) p sound.1) certain.1
-        (λ z. some (then_is_zero (category_at n) (conjunction_category (categories (list_of ns))) (inr z))) x (or_left (b x) (among (outputs_of n) x) h) s e) where
-    next : Known
-    next = handed (category_at n) (known_behind n seen) seen
-    some_n : Nonzero (category_at n)
-    some_n z = some (then_is_zero (category_at n) (conjunction_category (categories (list_of ns))) (inl z))
-    first : KnownBefore known types i declared (known_behind n seen) x s → KnownBefore known types i declared seen x s
-    first (inl k) = static_known known types i declared n (with out (in_nodes ns)) b seen sound.0.good sound.0.graded sound.0.parts certain.0 some_n x h s k
-    first (inr a) = inr a
-    on : (next ≡ seen) × (most_of (category_at n) ≡ Zero) ⊎ ((next ≡ known_behind n seen) × Nonzero (category_at n)) → (next ≡ known_behind n seen → KnownBefore known types i declared (known_behind n seen) x s)
-        → KnownBefore known types i declared seen x s
-    on (inl q) rec = absurd (some_n q.1)
-    on (inr q) rec = first (rec q.0)
+      (λ z. some (then_is_zero (category_at n) (conjunction_category (categories (list_of ns))) (inr z))) x (or_left (b x) (among (outputs_of n) x) h) s e) where
+        next : Known
+        next = handed (category_at n) (known_behind n seen) seen
+
+        some_n : Nonzero (category_at n)
+        some_n z = some (then_is_zero (category_at n) (conjunction_category (categories (list_of ns))) (inl z))
+
+        first : KnownBefore known types i declared (known_behind n seen) x s → KnownBefore known types i declared seen x s
+        first (inl k) = static_known known types i declared n (with out (in_nodes ns)) b seen sound.0.good sound.0.graded sound.0.parts certain.0 some_n x h s k
+        first (inr a) = inr a
+
+        on : (next ≡ seen) × (most_of (category_at n) ≡ Zero) ⊎ ((next ≡ known_behind n seen) × Nonzero (category_at n)) → (next ≡ known_behind n seen → KnownBefore known types i declared (known_behind n seen) x s)
+            → KnownBefore known types i declared seen x s
+        on (inl q) rec = absurd (some_n q.1)
+        on (inr q) rec = first (rec q.0)
 
   module _ (goals : Nodes) (outputs : List ℕ) (w s : List Right) (out : Variables) (b : Bound) (seen : Known) (here : Set) (hold : Hold) (distinct : AreDistinct (all_outputs goals)) (free : (x : ℕ) → has x (all_outputs goals) ≡ true → b x ≡ false)
       (fit : Fit b here w hold) (ready : Ready here w b (in_nodes goals)) (names : Names hold) (single : (x : ℕ) → are_for w x ≡ true → (length (users 1 goals x) == 1) ≡ true) (fine : FineFor out b (in_nodes goals) seen w hold) where
@@ -186,6 +189,7 @@ module _ (known : Module) (types i : Instance) (declared : AreGoodTypes known.ty
         inside : Nonzero (category_at n) → known_of (known_behind n seenk) x ≡ Some sy → (in_node n x ≡ true) ⊎ (in_node n x ≡ false) → KnownBefore known types i declared seenk x sy
         inside m p (inl j) = static_known known types i declared n (with outk (in_nodes ns)) bk seenk sound.good sound.graded sound.parts certain m x (h j) sy p
         inside m p (inr j) = inl (sym (behind_other n seenk x j) ∙ p)
+
         on : (next ≡ seenk) × (most_of (category_at n) ≡ Zero) ⊎ ((next ≡ known_behind n seenk) × Nonzero (category_at n)) → KnownBefore known types i declared seenk x sy
         on (inl p) = inl (subst (λ z. known_of z x ≡ Some sy) p.0 e)
         on (inr p) = inside p.1 (subst (λ z. known_of z x ≡ Some sy) p.0 e) (tell (in_node n x))
@@ -194,12 +198,15 @@ module _ (known : Module) (types i : Instance) (declared : AreGoodTypes known.ty
       next_bound x sy h e = on (zero_or (category_at n) (known_behind n seenk) seenk) where
         before : known_of seenk x ≡ Some sy → with bk (among (outputs_of n)) x ≡ true
         before p = or_left (bk x) (among (outputs_of n) x) (q.bound x sy (or_right (in_node n x) (in_nodes ns x) h) p)
+
         learnt : (known_of seenk x ≡ Some sy) ⊎ (with bk (among (outputs_of n)) x ≡ true) → with bk (among (outputs_of n)) x ≡ true
         learnt (inl p) = before p
         learnt (inr p) = p
+
         inside : known_of (known_behind n seenk) x ≡ Some sy → (in_node n x ≡ true) ⊎ (in_node n x ≡ false) → with bk (among (outputs_of n)) x ≡ true
         inside p (inl j) = learnt (learns (modes_of known.preds) n seenk (with outk (in_nodes ns)) bk sound.good x sy j (or_right (outk x) (in_nodes ns x) h) p)
         inside p (inr j) = before (sym (behind_other n seenk x j) ∙ p)
+
         on : (next ≡ seenk) × (most_of (category_at n) ≡ Zero) ⊎ ((next ≡ known_behind n seenk) × Nonzero (category_at n)) → with bk (among (outputs_of n)) x ≡ true
         on (inl p) = before (subst (λ z. known_of z x ≡ Some sy) p.0 e)
         on (inr p) = inside (subst (λ z. known_of z x ≡ Some sy) p.0 e) (tell (in_node n x))
@@ -216,10 +223,12 @@ module _ (known : Module) (types i : Instance) (declared : AreGoodTypes known.ty
         lefts : (x : ℕ) → (has x left ≡ true) ⊎ (has x (outputs_of n) ≡ true) → with outk (in_node n) x ≡ true
         lefts x (inl h) = or_left (outk x) (in_node n x) (q.lefts x h)
         lefts x (inr h) = or_right (outk x) (in_node n x) (good_occurs (modes_of known.preds) (with outk (in_nodes ns)) bk n sound.good x (has_among x (outputs_of n) h))
+
         ends : (most_of (conjunction_category (categories (list_of goals))) ≡ Zero → ⊥) → (known_behind_all ns next ≡ known_behind_all goals seen) × (most_of (conjunction_category (categories (list_of ns))) ≡ Zero → ⊥)
         ends m = on (zero_or (category_at n) (known_behind n seenk) seenk) where
           rest : Nonzero (conjunction_category (categories (list_of (more_nodes n ns))))
           rest = (q.ends m).1
+
           on : (next ≡ seenk) × (most_of (category_at n) ≡ Zero) ⊎ ((next ≡ known_behind n seenk) × Nonzero (category_at n)) → (known_behind_all ns next ≡ known_behind_all goals seen) × (most_of (conjunction_category (categories (list_of ns))) ≡ Zero → ⊥)
           on (inl p) = absurd (rest (then_is_zero (category_at n) (conjunction_category (categories (list_of ns))) (inl p.1)))
           on (inr p) = (ap (known_behind_all ns) p.0 ∙ (q.ends m).0, λ z. rest (then_is_zero (category_at n) (conjunction_category (categories (list_of ns))) (inr z)))
@@ -259,10 +268,12 @@ module _ (known : Module) (types i : Instance) (declared : AreGoodTypes known.ty
         outer : (x : ℕ) → in_node n x ≡ true → (b x ≡ true) ⊎ (has x left ≡ true) → outk x ≡ true
         outer x h (inl e) = q.outs x (fine.outer x (in_all_goals x h) e)
         outer x h (inr e) = q.lefts x e
+
         typed_owed : (x c : ℕ) (v : Value) → OwnWait goals outputs w s hold k goal given x c (Some v) ⊎ ((child_for false x (info goals outputs w s hold).moves ≡ Some k) × Owed hold x c (Some v)) → HasType known.types v (replaced i (types x))
         typed_owed x c v (inl o) = subst (λ z. HasType known.types v (replaced i (types z))) o.variable
             (proper o.one o.there v (subst (λ z. gift_at z given ≡ Some (Some v)) (sym o.cell) (given_some (gift_at c given) v o.value))).1.0
         typed_owed x c v (inr o) = fine.typed_owed x c v (wait_child outputs w s goals x k o.0).0 o.1
+
         knows_owed : (x c : ℕ) (sy : Symbol) (v : Value) → in_node n x ≡ true → known_of seenk x ≡ Some sy → OwnWait goals outputs w s hold k goal given x c (Some v) ⊎ ((child_for false x (info goals outputs w s hold).moves ≡ Some k) × Owed hold x c (Some v)) → (vs : Values) × (fields sy v ≡ Some vs)
         knows_owed x c sy v h e (inl o) =
             (proper o.one o.there v (subst (λ z. gift_at z given ≡ Some (Some v)) (sym o.cell) (given_some (gift_at c given) v o.value))).1.1 sy (subst (λ z. known_of seenk z ≡ Some sy) (sym o.variable) e)
