@@ -183,7 +183,7 @@ mutual
         fine_all proper x (suc k) more l (u + f.steps) n (gn ++ signalled (script false l 0 gn t)) p.1 f.rest,
       )
 
-fine_kids_answer : (proper : ℕ → Value → Type 0) (x : Fork) (ks : BranchCourses) (l n : ℕ) (gn : List ℕ) → AllKeep proper x 1 ks → joined l (ends (scripts l gn ks)) ≡ Fine n → AllAnswer ks
+pub fine_kids_answer : (proper : ℕ → Value → Type 0) (x : Fork) (ks : BranchCourses) (l n : ℕ) (gn : List ℕ) → AllKeep proper x 1 ks → joined l (ends (scripts l gn ks)) ≡ Fine n → AllAnswer ks
 fine_kids_answer proper x ks l n gn p h = fine_all proper x 1 ks l 0 n gn p (sym (joined_is_walk ks l gn) ∙ h)
 
 -- the rights to signal that are left, as a list
@@ -238,7 +238,7 @@ cells_fit n m sg gs (one ∷ cells) e h = (
   cells_fit n m sg gs cells e h.1,
 )
 
-moved_right : (n : ℕ) (rights : ℕ → Bool) (g : List Gift) (w : List ℕ) (c : ℕ) (ms : List Move) → AllByRecursion (MoveGoes n rights g w) ms → has c (moved true ms) ≡ true
+pub moved_right : (n : ℕ) (rights : ℕ → Bool) (g : List Gift) (w : List ℕ) (c : ℕ) (ms : List Move) → AllByRecursion (MoveGoes n rights g w) ms → has c (moved true ms) ≡ true
     → (rights c ≡ true) × (gift_at c g ≡ None)
 moved_right n rights g w c ms e h =
     let m = moved_move (MoveGoes n rights g w) true c ms e h in
@@ -252,7 +252,7 @@ moved_less n rights g gs w ss ms p e =
     (λ d i m. some_now (value_given (gift_at d gs)) (gift_at d (g ++ gifts_through (moved true ms) gs)) (look_past d g (gifts_through (moved true ms) gs) m ∙ gifts_in d (moved true ms) gs i))
     (λ d i. gifts_out d (moved true ms) gs (λ q. clash (has d (moved true ms)) q i)) (λ d i. (moved_right n rights g w d ms e i).1)
 
-signalled_going : (c s : ℕ) (o : Outcome) (next : ℕ → Script) → has c (signalled (going o s next)) ≡ true → (u : ℕ) × ((o ≡ Fine u) × (has c (signalled (next u)) ≡ true))
+pub signalled_going : (c s : ℕ) (o : Outcome) (next : ℕ → Script) → has c (signalled (going o s next)) ≡ true → (u : ℕ) × ((o ≡ Fine u) × (has c (signalled (next u)) ≡ true))
 signalled_going c s (Fine u) next h = (u, (refl, h))
 signalled_going c s (Raise e n) next h = absurd (cc)
 signalled_going c s Limit next h = absurd (cc)
@@ -352,12 +352,12 @@ one_only {A} cell base test other c (x ∷ xs) bt bo d h i =
         (distinct_first cell (base x) x (filter base xs) (bo x q.0) d)
     on (inr p) (inr q) rec = rec p q
 
-moved_not_own : (n : ℕ) (rights : ℕ → Bool) (g : List Gift) (w : List ℕ) (x : Fork) (k c : ℕ) → SiteFits n rights g w x → has c (moved_to k true x.moves) ≡ true → has c (names x.cells) ≡ false
+pub moved_not_own : (n : ℕ) (rights : ℕ → Bool) (g : List Gift) (w : List ℕ) (x : Fork) (k c : ℕ) → SiteFits n rights g w x → has c (moved_to k true x.moves) ≡ true → has c (names x.cells) ≡ false
 moved_not_own n rights g w x k c s h =
     let m = moved_to_move (λ m. has m.cell (names x.cells) ≡ false) k true c x.moves s.fresh h in
     sym (ap (λ z. has z (names x.cells)) m.1.1.0) ∙ m.1.0
 
-one_maker : (x : Fork) (j k c : ℕ) → AreDistinct (names x.cells) → has c (makes j x.cells) ≡ true → has c (makes k x.cells) ≡ true → j ≡ k
+pub one_maker : (x : Fork) (j k c : ℕ) → AreDistinct (names x.cells) → has c (makes j x.cells) ≡ true → has c (makes k x.cells) ≡ true → j ≡ k
 one_maker x j k c d h i =
     let o = one_only (λ (one : NamedCell). one.cell) (λ one. true) (λ (one : NamedCell). nat_eq one.producer j) (λ (one : NamedCell). nat_eq one.producer k) c x.cells (λ y e. refl) (λ y e. refl)
     (subst (λ l. AreDistinct (names l)) (sym (all_pass x.cells)) d) h i in
@@ -408,10 +408,10 @@ kid_given x k j c gs hs ms ns (inl h) here later = given_before c gs hs (here h)
 kid_given x k j c gs hs ms ns (inr h) here later = let q = later h in given_past c gs hs q.0 q.1
 
 -- a cell that another child has the right to signal
-not_its : (x : Fork) (k j c : ℕ) → (has c (signals_to j x) ≡ true → has c (signals_to k x) ≡ true → j ≡ k) → suc k ≤ j → has c (signals_to j x) ≡ true → has c (signals_to k x) ≡ false
+pub not_its : (x : Fork) (k j c : ℕ) → (has c (signals_to j x) ≡ true → has c (signals_to k x) ≡ true → j ≡ k) → suc k ≤ j → has c (signals_to j x) ≡ true → has c (signals_to k x) ≡ false
 not_its x k j c a l h = absent c (signals_to k x) (λ i. let e = a h i in absurd (omega (arith, e, l)))
 
-not_none : (x : Fork) (j c : ℕ) → ((k : ℕ) → has 0 (signals_to k x) ≡ false) → has c (signals_to j x) ≡ true → c ≡ 0 → ⊥
+pub not_none : (x : Fork) (j c : ℕ) → ((k : ℕ) → has 0 (signals_to k x) ≡ false) → has c (signals_to j x) ≡ true → c ≡ 0 → ⊥
 not_none x j c z h e = clash (has c (signals_to j x)) h (ap (λ y. has y (signals_to j x)) e ∙ z j)
 
 mutual
@@ -456,20 +456,20 @@ mutual
 
 -- the values of cells
 
-same_test : (p q : Bool) → (p ≡ true → q ≡ true) → (q ≡ true → p ≡ true) → p ≡ q
+pub same_test : (p q : Bool) → (p ≡ true → q ≡ true) → (q ≡ true → p ≡ true) → p ≡ q
 same_test true true h k = refl
 same_test false false h k = refl
 same_test true false h k = sym (h refl)
 same_test false true h k = k refl
 
-in_rest : (c : ℕ) (xs ys : List ℕ) → (has c xs ≡ true → ⊥) → has c (xs ++ ys) ≡ has c ys
+pub in_rest : (c : ℕ) (xs ys : List ℕ) → (has c xs ≡ true → ⊥) → has c (xs ++ ys) ≡ has c ys
 in_rest c xs ys n = same_test (has c (xs ++ ys)) (has c ys) (λ h. on (in_either c xs ys h)) (λ h. in_right c xs ys h)
   where
     on : (has c xs ≡ true) ⊎ (has c ys ≡ true) → has c ys ≡ true
     on (inl h) = absurd (n h)
     on (inr h) = h
 
-in_front : (c : ℕ) (xs ys : List ℕ) → (has c ys ≡ true → ⊥) → has c (xs ++ ys) ≡ has c xs
+pub in_front : (c : ℕ) (xs ys : List ℕ) → (has c ys ≡ true → ⊥) → has c (xs ++ ys) ≡ has c xs
 in_front c xs ys n = same_test (has c (xs ++ ys)) (has c xs) (λ h. on (in_either c xs ys h)) (λ h. in_left c xs ys h)
   where
     on : (has c xs ≡ true) ⊎ (has c ys ≡ true) → has c xs ≡ true
@@ -657,7 +657,7 @@ pending_waits y ks all p ws e f c h =
     (append_more (uses 0 y.cells) (without (names y.cells) p) (without (names y.cells) (without (moved false y.moves) ws))
     (λ d i. minus_more (names y.cells) p (without (moved false y.moves) ws) (λ b k. no_gone y.moves b ws e (f b k)) d i) c h))
 
-not_moved_to : (ms : List Move) (j c : ℕ) → ms ≡ [] → has c (moved_to j true ms) ≡ true → ⊥
+pub not_moved_to : (ms : List Move) (j c : ℕ) → ms ≡ [] → has c (moved_to j true ms) ≡ true → ⊥
 not_moved_to ms j c e h = nothing (subst (λ z. has c (moved_to j true z) ≡ true) e h)
   where
     nothing : has c [] ≡ true → ⊥

@@ -29,7 +29,7 @@ use Rattle.merc_plan.proofs.Sets.{clash, tell, first_in, rest_in, or_in, front_o
 
 -- lists of rights
 
-each_filter : {A : Type 0} (P : A → Type 0) (test : A → Bool) (xs : List A) → AllByRecursion P xs → AllByRecursion P (filter test xs)
+pub each_filter : {A : Type 0} (P : A → Type 0) (test : A → Bool) (xs : List A) → AllByRecursion P xs → AllByRecursion P (filter test xs)
 each_filter P test [] h = tt
 each_filter P test (x ∷ xs) h = on (test x) (each_filter P test xs h.1)
   where
@@ -37,7 +37,7 @@ each_filter P test (x ∷ xs) h = on (test x) (each_filter P test xs h.1)
     on true k = (h.0, k)
     on false k = k
 
-each_append : {A : Type 0} (P : A → Type 0) (xs ys : List A) → AllByRecursion P xs → AllByRecursion P ys → AllByRecursion P (xs ++ ys)
+pub each_append : {A : Type 0} (P : A → Type 0) (xs ys : List A) → AllByRecursion P xs → AllByRecursion P ys → AllByRecursion P (xs ++ ys)
 each_append P [] ys h k = k
 each_append P (x ∷ xs) ys h k = (h.0, each_append P xs ys h.1 k)
 
@@ -68,7 +68,7 @@ cell_within rights (Some one) h = inr h
 
 -- forks
 
-named_low : (next : ℕ) (infos : List CellInfo) (c : ℕ) → has c (names (named next infos)) ≡ true → next ≤ c
+pub named_low : (next : ℕ) (infos : List CellInfo) (c : ℕ) → has c (names (named next infos)) ≡ true → next ≤ c
 named_low next [] c h = absurd (cc)
 named_low next (info ∷ infos) c h = on (front_or c next (names (named (suc next) infos)) h) (λ k. named_low (suc next) infos c k)
   where

@@ -8,7 +8,7 @@ use Rattle.merc_core.specs.Rights.{has, without}
 use Rattle.merc_core.specs.WellFormed.{gain}
 use Rattle.merc_plan.specs.Branch.{BranchCourse, Over, Breaks, Steps, Finds, Awaits, Gives, Forks, Raised, TooDeep, Starving, names}
 use Rattle.merc_plan.specs.BranchScript.{all_signalled, going, script, scripts}
-use Rattle.merc_plan.proofs.Judging.{gained, Accounts}
+use Rattle.merc_plan.specs.Counting.{gained, Accounts}
 use Rattle.merc_plan.proofs.Walks.{WithinLimit, joined_limit}
 
 abbrev number : Outcome → ℕ

@@ -5,8 +5,8 @@ use Rattle.std.specs.List.{AllByRecursion}
 use Rattle.merc_value.specs.Value.{Value}
 use Rattle.merc_script.specs.declared.outcome.Outcome.{Outcome}
 use Rattle.merc_script.specs.declared.cells.Move.{Move}
-use Rattle.merc_script.specs.Script.{Script, Ends, TickThen, WaitThen, SignalThen, ForkThen, Children, NoChild, Child, Cell, count, ends, end_of}
-use Rattle.merc_script.specs.declared.outcome.Outcome.TheVariants.{Ok as Fine, Starved}
+use Rattle.merc_script.specs.Script.{Script, Ends, TickThen, WaitThen, SignalThen, ForkThen, Children, NoChild, Child, Cell, count, ends}
+use Rattle.merc_script.specs.declared.outcome.Outcome.TheVariants.{Starved}
 use Rattle.merc_script.specs.Joining.{joined}
 use Rattle.merc_core.specs.Rights.{has, without, numbers_of, moved, moved_to, used_by, signals_at, waits_at, signals_behind}
 use Rattle.merc_core.specs.WellFormed.{AreDistinct, ForkFits, EndsWell, Follows, gain, value_in, most_children}
@@ -205,14 +205,3 @@ abbrev mutual
   AllNamedFormed value cells moves k NoChild = ⊤
   AllNamedFormed value cells moves k (Child s more) =
     NamedFormed value 0 (signals_at k cells moves) (waits_at k cells moves) s × AllNamedFormed value cells moves (suc k) more
-
--- a script's own steps, with those of its forks that end well
-abbrev pub gained : Script → ℕ
-gained (Ends o) = 0
-gained (TickThen r) = suc (gained r)
-gained (WaitThen c r) = gained r
-gained (SignalThen c r) = gained r
-gained (ForkThen l cells moves all r) = gain (joined l (ends all)) + gained r
-
-abbrev pub Accounts : ℕ → ℕ → Script → Type 0
-Accounts l s r = (gained r ≤ l) × ((n : ℕ) → end_of r ≡ Fine n → n ≡ s + gained r)

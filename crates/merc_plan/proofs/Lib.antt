@@ -21,3 +21,8 @@ pub mod Plays
 pub mod PlaysNodes
 pub mod Standing
 pub mod StandingAt
+pub mod Telling
+pub mod TellingNodes
+pub mod Knowing
+pub mod Placing
+pub mod Valuing

@@ -5,9 +5,11 @@ pub mod BranchScript
 pub mod Plays
 pub mod Stands
 pub mod PlanLists
+pub mod Counting
 pub mod Laws
 pub mod PlaysExamples
 pub mod StandsExamples
 pub mod BranchExamples
 pub mod HoldExamples
 pub mod BranchScriptExamples
+pub mod CountingExamples

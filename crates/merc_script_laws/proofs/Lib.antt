@@ -27,6 +27,17 @@ pub mod FewOrdered
 pub mod FewFinished
 pub mod Few
 pub mod AcceptedParallel
+pub mod Stays
+pub mod Placing
+pub mod Arms
+pub mod InTurn
+pub mod Turns
+pub mod Ways
+pub mod SwitchArms
+pub mod Switches
+pub mod Conditions
+pub mod Conditionals
+pub mod PlacedGoals
 pub mod Members
 pub mod Cells
 pub mod Sites
