@@ -1,17 +1,16 @@
 -- The cells of a fork by name, and the rights that move into its conjuncts.
-use Rattle.std.proofs.Common.{◌≡◌, ◌⊎◌, inl, inr, ℕ, zero, suc, ◌+◌, ◌≤◌, ◌<◌, Bool, true, false, not, ◌==◌, ◌&&◌, if◌then◌else◌, nat_eq, List, [], ◌∷◌, ◌++◌, length, map, filter, flat_map, Option, Some, None, refl, ap, sym, subst, ◌∙◌, arith}
-use Rattle.merc_value.specs.Value.{Value}
+use Rattle.std.proofs.Common.{◌≡◌, ◌⊎◌, inl, inr, ℕ, suc, ◌+◌, ◌≤◌, ◌<◌, Bool, true, false, not, ◌==◌, ◌&&◌, if◌then◌else◌, nat_eq, List, [], ◌∷◌, ◌++◌, length, map, filter, flat_map, Option, Some, None, refl, ap, sym, subst, ◌∙◌, arith}
 use Rattle.merc_script.specs.declared.cells.Move.{Move}
 use Rattle.merc_core.specs.Rights.{has, cells_moved, is_kind, moved, moved_to}
 use Rattle.merc_core.specs.WellFormed.{AreDistinct}
 use Rattle.merc_par_split.specs.declared.sites.CellInfo.{CellInfo}
 use Rattle.merc_par_split.specs.declared.sites.Moved.{Moved}
 use Rattle.merc_par_split.specs.declared.sites.SiteInfo.{SiteInfo}
-use Rattle.merc_plan.specs.Branch.{HeldWait, HeldSignal, Hold, NamedCell, Fork, names, Gift, gift_at, value_given}
-use Rattle.merc_plan.specs.Hold.{wait_for, named, own_waits, own_signals, child_for, moves_if, moves_from, goes_to, waits_into, signals_into, stays, waits_kept, signals_kept, fork_of, conjunct_hold, hold_behind}
+use Rattle.merc_plan.specs.Branch.{HeldWait, HeldSignal, Hold, NamedCell, names, Gift, gift_at, value_given}
+use Rattle.merc_plan.specs.Hold.{wait_for, named, own_waits, own_signals, child_for, moves_if, moves_from, goes_to, waits_into, signals_into, stays, fork_of, conjunct_hold}
 use Rattle.merc_plan.proofs.Judging.{makes, uses, signals_to, waits_to}
-use Rattle.merc_plan.proofs.Sets.{clash, tell, absent, same_number, is_same, front_or, and_both, both_and, not_true, true_not}
-use Rattle.merc_script_laws.proofs.Members.{Member, member_left, member_right, member_either, passing, passes, made_from, is_made, numbered, is_numbered, number_in, distinct_same, map_both, map_twice, filter_both, length_map}
+use Rattle.merc_plan.proofs.Sets.{clash, absent, same_number, is_same, and_both, both_and, not_true, true_not}
+use Rattle.merc_script_laws.proofs.Members.{Member, passes, numbered, number_in, map_both, map_twice, filter_both}
 
 -- Cells by name.
 

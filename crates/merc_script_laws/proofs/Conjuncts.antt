@@ -1,8 +1,8 @@
 -- The conjuncts of a parallel conjunction, one by one: what they have, wait for and signal.
-use Rattle.std.proofs.Common.{◌≡◌, ◌⊎◌, inl, inr, ℕ, zero, suc, ◌+◌, ◌≤◌, ◌<◌, Bool, true, false, not, ◌==◌, ◌||◌, if◌then◌else◌, nat_eq, List, [], ◌∷◌, ◌++◌, length, map, filter, Option, Some, None, refl, ap, sym, subst, ◌∙◌, arith}
+use Rattle.std.proofs.Common.{◌≡◌, ◌⊎◌, inl, inr, ℕ, suc, ◌+◌, ◌≤◌, ◌<◌, true, false, ◌==◌, ◌||◌, nat_eq, List, [], ◌∷◌, ◌++◌, length, map, Option, Some, refl, ap, sym, subst, ◌∙◌, arith}
 use Rattle.std.proofs.lemmas.Bool.Decides.{nat_tests}
 use Rattle.merc_value.specs.Value.{Value}
-use Rattle.merc_graded_tree.specs.Nodes.{Node, Nodes, no_nodes, more_nodes, outputs_of}
+use Rattle.merc_graded_tree.specs.Nodes.{Node, Nodes, more_nodes, outputs_of}
 use Rattle.merc_graded_tree.specs.Variables.{among, in_node, in_nodes}
 use Rattle.merc_order.specs.Bound.{Bound, with}
 use Rattle.merc_meaning.specs.Trace.{Env}
@@ -12,20 +12,20 @@ use Rattle.merc_core.specs.WellFormed.{AreDistinct}
 use Rattle.merc_par_split.specs.declared.sites.CellInfo.{CellInfo}
 use Rattle.merc_par_split.specs.Rights.{Right, right_to, those, used_in, users}
 use Rattle.merc_par_split.specs.Sites.{count, are_for, consumers, cells_of}
-use Rattle.merc_plan.specs.Branch.{HeldWait, HeldSignal, Hold, NamedCell, Fork, Gift, gift_at, value_given}
+use Rattle.merc_plan.specs.Branch.{HeldSignal, Hold, NamedCell, Fork, Gift, gift_at, value_given}
 use Rattle.merc_plan.specs.Hold.{child_for, fork_of}
 use Rattle.merc_plan.proofs.Judging.{signals_to, waits_to}
-use Rattle.merc_plan.proofs.Sets.{clash, tell, absent, same_number, or_left, or_right, or_either, in_left, in_right, in_either}
+use Rattle.merc_plan.proofs.Sets.{clash, tell, same_number, or_left, or_right, or_either, in_left, in_right, in_either}
 use Rattle.merc_script_laws.specs.Parallel.{all_outputs}
 use Rattle.merc_script_laws.proofs.Bonds.{Set, Here, Owed, signs, rights_for, Within, Fit, Match, Names, Kept, Ready, Rightful}
-use Rattle.merc_script_laws.proofs.RightLists.{variables_of, unlisted, listed, those_in, in_those, those_once, none_for, not_for}
+use Rattle.merc_script_laws.proofs.RightLists.{variables_of, unlisted, those_in, in_those, those_once, none_for}
 use Rattle.merc_script_laws.proofs.Holding.{none_in}
-use Rattle.merc_script_laws.proofs.Members.{Member, member_left, member_right, member_either, made_from, is_made, numbered, number_in, has_member, member_has, distinct_both, distinct_left, distinct_right, distinct_apart, map_both, map_twice}
+use Rattle.merc_script_laws.proofs.Members.{Member, member_left, member_right, member_either, made_from, is_made, numbered, has_member, member_has, distinct_both, distinct_left, distinct_right, map_both}
 use Rattle.merc_script_laws.proofs.Cells.{name_of, rights_signal, rights_wait}
-use Rattle.merc_script_laws.proofs.Sites.{among_has, has_among, nth, bound_by, same_some, nth_low, later_nth, first_nth, past_nth, nth_in, different, Fact, fact, cell_for, used_cell}
+use Rattle.merc_script_laws.proofs.Sites.{among_has, has_among, nth, bound_by, same_some, nth_low, later_nth, first_nth, past_nth, nth_in, different, Fact, cell_for, used_cell}
 use Rattle.merc_script_laws.proofs.SiteMoves.{right_of, is_right, signal_child, wait_child, child_signal, child_wait, no_signal}
 use Rattle.merc_script_laws.proofs.Counts.{all_signals, signals_within, signals_counted, owned, owned_later, owned_here, signs_moved, signs_own}
-use Rattle.merc_script_laws.proofs.Kids.{signal_cells, wait_cells, signs_member, member_signs, signs_cell, owed_member, owed_cell, Listed, names_listed, info, cells, own, fact_of, own_bound, same_own, kid, OwnWait, OwnSign, owed_cases, sign_cases, own_sign, moved_sign, own_owed, moved_owed, kid_listed, kid_here, here_kid}
+use Rattle.merc_script_laws.proofs.Kids.{member_signs, signs_cell, owed_cell, Listed, names_listed, info, cells, own, fact_of, own_bound, kid, OwnWait, OwnSign, owed_cases, sign_cases, own_owed, moved_owed, kid_listed, kid_here, here_kid}
 
 -- rights for these variables
 abbrev pub rights_to : ℕ → List ℕ → List Right

@@ -1,8 +1,6 @@
 -- A conjunct has as many rights to signal a variable as it signals it.
-use Rattle.std.proofs.Common.{◌≡◌, ◌⊎◌, inl, inr, ℕ, zero, suc, ◌+◌, ◌≤◌, ◌<◌, Bool, true, false, not, ◌==◌, ◌&&◌, if◌then◌else◌, nat_eq, List, [], ◌∷◌, ◌++◌, length, map, filter, flat_map, Option, Some, None, refl, ap, sym, subst, ◌∙◌, arith}
-use Rattle.std.proofs.lemmas.Bool.Decides.{nat_tests}
+use Rattle.std.proofs.Common.{◌≡◌, ◌⊎◌, inl, inr, ℕ, suc, ◌+◌, ◌<◌, Bool, true, false, ◌==◌, ◌&&◌, if◌then◌else◌, List, [], ◌∷◌, ◌++◌, length, map, filter, flat_map, Option, Some, None, refl, ap, sym, subst, ◌∙◌, arith}
 use Rattle.merc_graded_tree.specs.Nodes.{Node, Nodes, no_nodes, more_nodes, outputs_of}
-use Rattle.merc_graded_tree.specs.Variables.{among}
 use Rattle.merc_core.specs.Rights.{has}
 use Rattle.merc_core.specs.WellFormed.{AreDistinct}
 use Rattle.merc_par_split.specs.declared.sites.CellInfo.{CellInfo}
@@ -12,11 +10,11 @@ use Rattle.merc_par_split.specs.Rights.{Right, right_to, those, is_sooner, with_
 use Rattle.merc_par_split.specs.Sites.{consumers, cells_of, are_for}
 use Rattle.merc_plan.specs.Branch.{HeldSignal, Hold, NamedCell, Gift}
 use Rattle.merc_plan.specs.Hold.{named, own_signals, child_for, goes_to, signals_into, conjunct_hold}
-use Rattle.merc_plan.proofs.Sets.{clash, tell, same_number, is_same, and_both}
+use Rattle.merc_plan.proofs.Sets.{clash, tell, same_number, is_same}
 use Rattle.merc_script_laws.proofs.Bonds.{signs, rights_for}
-use Rattle.merc_script_laws.proofs.Members.{Member, member_either, passing, made_from, joined_from, has_member, member_has, map_both, map_twice, filter_both, filter_none, filter_all, filter_joined_one, filter_joined_none, length_both, length_map}
+use Rattle.merc_script_laws.proofs.Members.{Member, passing, made_from, joined_from, member_has, filter_both, filter_none, filter_all, filter_joined_one, length_both, length_map}
 use Rattle.merc_script_laws.proofs.Cells.{same_variables}
-use Rattle.merc_script_laws.proofs.Sites.{among_has, cell_for, cells_for}
+use Rattle.merc_script_laws.proofs.Sites.{cell_for, cells_for}
 use Rattle.merc_script_laws.proofs.SiteMoves.{right_of}
 
 not_equal : (x y : ℕ) → (x ≡ y → ⊥) → (x == y) ≡ false

@@ -1,25 +1,24 @@
 -- The rights of a conjunct: to own cells of the fork, or of those that its parent holds.
-use Rattle.std.proofs.Common.{◌≡◌, ◌⊎◌, inl, inr, ℕ, zero, suc, ◌+◌, ◌≤◌, ◌<◌, Bool, true, false, not, ◌==◌, ◌&&◌, if◌then◌else◌, nat_eq, List, [], ◌∷◌, ◌++◌, length, map, filter, Option, Some, None, refl, ap, sym, subst, ◌∙◌, arith}
+use Rattle.std.proofs.Common.{◌≡◌, ◌⊎◌, inl, inr, ℕ, ◌+◌, ◌≤◌, ◌<◌, Bool, true, false, not, ◌==◌, if◌then◌else◌, nat_eq, List, ◌++◌, length, map, filter, Option, Some, None, refl, ap, sym, subst, ◌∙◌, arith}
 use Rattle.merc_value.specs.Value.{Value}
-use Rattle.merc_graded_tree.specs.Nodes.{Node, Nodes, outputs_of}
-use Rattle.merc_graded_tree.specs.Variables.{among, in_node, in_nodes}
+use Rattle.merc_graded_tree.specs.Nodes.{Node, Nodes}
+use Rattle.merc_graded_tree.specs.Variables.{among, in_node}
 use Rattle.merc_meaning.specs.Steps.{value_at}
 use Rattle.merc_core.specs.Rights.{has}
 use Rattle.merc_core.specs.WellFormed.{AreDistinct}
 use Rattle.merc_course.proofs.Beginnings.{beginning}
 use Rattle.merc_par_split.specs.declared.sites.CellInfo.{CellInfo}
-use Rattle.merc_par_split.specs.declared.sites.Moved.{Moved}
 use Rattle.merc_par_split.specs.declared.sites.SiteInfo.{SiteInfo}
 use Rattle.merc_par_split.specs.Rights.{Right}
-use Rattle.merc_par_split.specs.Sites.{are_for, cells_of, site_info}
+use Rattle.merc_par_split.specs.Sites.{cells_of, site_info}
 use Rattle.merc_plan.specs.Branch.{HeldWait, HeldSignal, Hold, NamedCell, names, Gift, gift_at, value_given}
-use Rattle.merc_plan.specs.Hold.{wait_for, named, own_waits, own_signals, child_for, goes_to, waits_into, signals_into, conjunct_hold}
+use Rattle.merc_plan.specs.Hold.{named, own_waits, own_signals, child_for, goes_to, waits_into, signals_into, conjunct_hold}
 use Rattle.merc_plan.proofs.Judging.{makes, uses}
-use Rattle.merc_plan.proofs.Sets.{clash, tell, same_number, is_same, in_either}
+use Rattle.merc_plan.proofs.Sets.{same_number, is_same, in_either}
 use Rattle.merc_script_laws.specs.Parallel.{all_outputs}
 use Rattle.merc_script_laws.proofs.Bonds.{Here, Owed, signs, Names}
-use Rattle.merc_script_laws.proofs.Members.{Member, member_left, member_right, member_either, passing, passes, made_from, is_made, numbered, is_numbered, number_in, distinct_same, distinct_passing, distinct_both, map_both}
-use Rattle.merc_script_laws.proofs.Cells.{of_info, name_of, names_distinct, name_low, name_high, same_variables, own_wait_cells, own_wait_variables, own_signal_cells, goes_there, there_goes, wait_found, finds_wait}
+use Rattle.merc_script_laws.proofs.Members.{Member, member_left, member_right, member_either, passing, passes, made_from, is_made, numbered, number_in, distinct_same, distinct_passing, distinct_both, map_both}
+use Rattle.merc_script_laws.proofs.Cells.{of_info, names_distinct, same_variables, own_wait_cells, own_wait_variables, own_signal_cells, goes_there, there_goes, wait_found, finds_wait}
 use Rattle.merc_script_laws.proofs.Sites.{Fact, fact, nth, bound_by, waited_by, waited_distinct, waited_bound}
 
 abbrev pub signal_cells : Hold → List ℕ

@@ -43,10 +43,13 @@ pub mod Cells
 pub mod Sites
 pub mod SiteMoves
 pub mod Counts
-pub mod Static
+pub mod Learning
 pub mod Placed
 pub mod Kids
 pub mod Conjuncts
+pub mod Sights
+pub mod ConjunctsKeep
+pub mod ConjunctsAlong
 pub mod Dets
 pub mod Begins
 pub mod Behind
@@ -60,3 +63,7 @@ pub mod Top
 pub mod Joining
 pub mod Trees
 pub mod AcceptedScripts
+pub mod ForkSite
+pub mod ConjunctsEnd
+pub mod ForkUses
+pub mod Forks

@@ -1,5 +1,5 @@
 -- Which rights move into which conjuncts, and that outputs of good goals are told apart.
-use Rattle.std.proofs.Common.{◌≡◌, ◌⊎◌, inl, inr, ℕ, zero, suc, ◌+◌, ◌≤◌, ◌<◌, Bool, true, false, not, ◌==◌, ◌&&◌, ◌||◌, if◌then◌else◌, nat_eq, List, [], ◌∷◌, ◌++◌, length, map, filter, flat_map, Option, Some, None, refl, ap, sym, subst, ◌∙◌, arith}
+use Rattle.std.proofs.Common.{◌≡◌, ◌⊎◌, inl, inr, ℕ, suc, ◌+◌, Bool, true, false, ◌==◌, if◌then◌else◌, nat_eq, List, [], ◌∷◌, ◌++◌, length, map, filter, Option, Some, None, refl, ap, sym, subst, ◌∙◌}
 use Rattle.merc_tree.specs.declared.declarations.ModeDecl.{ModeDecl}
 use Rattle.merc_graded_tree.specs.Nodes.{Node, node, Nodes, no_nodes, more_nodes, outputs_of}
 use Rattle.merc_graded_tree.specs.Variables.{among, in_node, in_nodes}
@@ -12,12 +12,12 @@ use Rattle.merc_par_split.specs.declared.sites.Moved.{Moved}
 use Rattle.merc_par_split.specs.Rights.{Right, users}
 use Rattle.merc_par_split.specs.Sites.{are_for, signal_moves, wait_moves, site_info}
 use Rattle.merc_plan.specs.Hold.{child_for}
-use Rattle.merc_plan.proofs.Sets.{clash, tell, absent, same_number, is_same, first_in, rest_in, front_or, in_left, in_right, in_either, or_either, or_left, or_right}
+use Rattle.merc_plan.proofs.Sets.{clash, tell, absent, same_number, front_or, in_either, or_left, or_right}
 use Rattle.merc_script_laws.specs.Parallel.{all_outputs}
 use Rattle.merc_script_laws.proofs.RightLists.{right_cases, right_first, right_rest}
 use Rattle.merc_script_laws.proofs.Members.{Member, member_left, member_right, member_either, passing, passes, made_from, is_made, joined_from, is_joined, has_member, member_has, distinct_both}
-use Rattle.merc_script_laws.proofs.Cells.{MoveOf, signal_move, wait_move, signal_goes, wait_goes}
-use Rattle.merc_script_laws.proofs.Sites.{among_has, has_among, nth, same_some, nth_low, later_nth, first_nth, past_nth, bound_by, one_binder, user_of, is_user, one_user}
+use Rattle.merc_script_laws.proofs.Cells.{signal_move, wait_move, signal_goes, wait_goes}
+use Rattle.merc_script_laws.proofs.Sites.{among_has, has_among, nth, same_some, later_nth, first_nth, one_binder, user_of, is_user, one_user}
 
 -- rights for a variable are among rights
 pub right_of : (w : List Right) (x : ℕ) → are_for w x ≡ true → (r : Right) × (Member r w × (r.variable ≡ x))

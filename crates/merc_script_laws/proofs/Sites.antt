@@ -1,19 +1,16 @@
 -- The cells and moves of an `&`: who binds, who uses, and that each is there once.
-use Rattle.std.proofs.Common.{◌≡◌, ◌⊎◌, inl, inr, ℕ, zero, suc, ◌+◌, ◌≤◌, ◌<◌, Bool, true, false, not, ◌==◌, ◌&&◌, ◌||◌, if◌then◌else◌, nat_eq, List, [], ◌∷◌, ◌++◌, length, map, filter, flat_map, Option, Some, None, refl, ap, sym, subst, ◌∙◌, arith}
+use Rattle.std.proofs.Common.{◌≡◌, ◌⊎◌, inl, inr, ℕ, suc, ◌+◌, ◌≤◌, ◌<◌, Bool, true, false, ◌==◌, ◌||◌, if◌then◌else◌, nat_eq, List, [], ◌∷◌, ◌++◌, length, map, filter, flat_map, Option, Some, None, refl, ap, sym, subst, ◌∙◌, arith}
 use Rattle.std.proofs.lemmas.Bool.Decides.{nat_tests}
 use Rattle.merc_graded_tree.specs.Nodes.{Node, Nodes, no_nodes, more_nodes, outputs_of}
 use Rattle.merc_graded_tree.specs.Variables.{among, in_node, in_nodes}
 use Rattle.merc_core.specs.Rights.{has}
 use Rattle.merc_core.specs.WellFormed.{AreDistinct}
 use Rattle.merc_par_split.specs.declared.sites.CellInfo.{CellInfo}
-use Rattle.merc_par_split.specs.declared.sites.Moved.{Moved}
-use Rattle.merc_par_split.specs.Rights.{Right, users}
-use Rattle.merc_par_split.specs.Sites.{count, consumers, cells_of, are_for, signal_moves, wait_moves, site_info}
-use Rattle.merc_plan.specs.Hold.{child_for}
-use Rattle.merc_plan.proofs.Sets.{clash, tell, absent, same_number, is_same, first_in, rest_in, front_or, in_left, in_right, in_either, and_both, both_and, or_either, or_left, or_right, not_true, true_not}
+use Rattle.merc_par_split.specs.Rights.{users}
+use Rattle.merc_par_split.specs.Sites.{count, consumers, cells_of}
+use Rattle.merc_plan.proofs.Sets.{clash, tell, absent, same_number, is_same, first_in, rest_in, front_or, in_left, in_right, in_either, or_either, or_left, or_right}
 use Rattle.merc_script_laws.specs.Parallel.{all_outputs}
-use Rattle.merc_script_laws.proofs.Members.{Member, member_left, member_right, member_either, passing, passes, made_from, is_made, joined_from, is_joined, numbered, number_in, has_member, member_has, distinct_filter, distinct_both, distinct_left, distinct_right, distinct_apart, map_both, filter_both}
-use Rattle.merc_script_laws.proofs.Cells.{signal_move, wait_move, signal_goes, wait_goes}
+use Rattle.merc_script_laws.proofs.Members.{Member, member_left, member_right, member_either, passing, made_from, is_made, joined_from, is_joined, numbered, has_member, member_has, distinct_filter, distinct_both, distinct_left, distinct_right, distinct_apart, map_both, filter_both}
 
 pub among_has : (x : ℕ) (xs : List ℕ) → among xs x ≡ true → has x xs ≡ true
 among_has x [] h = absurd (cc)
