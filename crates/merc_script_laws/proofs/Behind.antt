@@ -381,6 +381,7 @@ module _ (outputs : List ℕ) (w s : List Right) (goals : Nodes) (hold : Hold) (
         next = p.moves.next;
         names = λ n. names_behind;
         signed = signed_behind;
+        unsigned = unsigned_behind;
         still = λ k. p.signals ∙ filter_all signal_stays hold.signals (λ right i. none_stays (child_for true right.variable all_moves) (no_signal outputs w s goals right.variable (k right.variable)));
       }
 

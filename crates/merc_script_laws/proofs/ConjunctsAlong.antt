@@ -52,7 +52,7 @@ use Rattle.merc_script_laws.proofs.Cells.{rights_signal}
 use Rattle.merc_script_laws.proofs.Sites.{nth_high}
 use Rattle.merc_script_laws.proofs.SiteMoves.{good_occurs}
 use Rattle.merc_script_laws.proofs.Kids.{own, fact_of, OwnSign, sign_cases, same_own, own_low, own_sign, signs_cell}
-use Rattle.merc_script_laws.proofs.Conjuncts.{fork, at_next, this_one, names_k, fit_k, ready_k, match_k, own_right}
+use Rattle.merc_script_laws.proofs.Conjuncts.{rightful_k, fork, at_next, this_one, names_k, fit_k, ready_k, match_k, own_right}
 use Rattle.merc_script_laws.proofs.Sights.{FineFor, handed, Nonzero, zero_or, AllSound, AllCertain, sights_next}
 use Rattle.merc_script_laws.proofs.ConjunctsKeep.{GivesProper, planned_left, planned_right, EachGoes, Stands, Sees, Proper, site, kids, waits, signals, goal, same, all_used, is_within, kid_hold, kid, rights, may_wait, kid_here, ProperOf, KidEnd, kid_uses}
 
@@ -142,6 +142,7 @@ module _ (known : Module) (types i : Instance) (declared : AreGoodTypes known.ty
           (all_used known types i declared program calls plan split course offers goals outputs w s out b seen here hold distinct free fit ready names_are single fine goes counts at k left bk outk seenk n ns a q sound certain given) (is_within known types i declared program calls plan split course offers goals outputs w s out b seen here hold distinct free fit ready names_are single fine goes counts at k left bk outk seenk n ns a q sound certain given) sound fits_n (fit_k goals outputs w s b here hold distinct free fit ready names_are single fine.exact k left bk n ns a (goal known types i declared program calls plan split course offers goals outputs w s out b seen here hold distinct free fit ready names_are single fine goes counts at k left bk outk seenk n ns a q sound certain given) (same known types i declared program calls plan split course offers goals outputs w s out b seen here hold distinct free fit ready names_are single fine goes counts at k left bk outk seenk n ns a q sound certain given) given)
           (match_k goals outputs w s b here hold distinct free fit ready names_are single fine.exact k left bk n ns a (goal known types i declared program calls plan split course offers goals outputs w s out b seen here hold distinct free fit ready names_are single fine goes counts at k left bk outk seenk n ns a q sound certain given) (same known types i declared program calls plan split course offers goals outputs w s out b seen here hold distinct free fit ready names_are single fine goes counts at k left bk outk seenk n ns a q sound certain given) given full fullk match g.kept g.has_value)
           (ready_k goals outputs w s b here hold distinct free fit ready names_are single fine.exact k left bk n ns a (goal known types i declared program calls plan split course offers goals outputs w s out b seen here hold distinct free fit ready names_are single fine goes counts at k left bk outk seenk n ns a q sound certain given) (same known types i declared program calls plan split course offers goals outputs w s out b seen here hold distinct free fit ready names_are single fine goes counts at k left bk outk seenk n ns a q sound certain given) given) (names_k goals outputs w s b here hold distinct free fit ready names_are single fine.exact k left bk n ns a (goal known types i declared program calls plan split course offers goals outputs w s out b seen here hold distinct free fit ready names_are single fine goes counts at k left bk outk seenk n ns a q sound certain given) (same known types i declared program calls plan split course offers goals outputs w s out b seen here hold distinct free fit ready names_are single fine goes counts at k left bk outk seenk n ns a q sound certain given) given)
+          (rightful_k goals outputs w s b here hold distinct free fit ready names_are single fine.exact k left bk n ns a (goal known types i declared program calls plan split course offers goals outputs w s out b seen here hold distinct free fit ready names_are single fine goes counts at k left bk outk seenk n ns a q sound certain given) (same known types i declared program calls plan split course offers goals outputs w s out b seen here hold distinct free fit ready names_are single fine goes counts at k left bk outk seenk n ns a q sound certain given) given counts).counts
 
       pub kid_both : Like KidBoth (flat course_k) trace_k
       kid_both = like_with (λ e p. KidLike e p × KidLaw p) (λ p. Nonzero (category_at n)) (flat course_k) trace_k

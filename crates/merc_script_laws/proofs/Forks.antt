@@ -49,7 +49,7 @@ use Rattle.merc_plan.proofs.Events.{events_once}
 use Rattle.merc_plan.proofs.Holds.{keeps_once, keeps_end, quiet_once}
 use Rattle.merc_plan.proofs.Sets.{tell}
 use Rattle.merc_script_laws.specs.Parallel.{all_outputs, AllKeepOutputs, AllHaveFew}
-use Rattle.merc_script_laws.proofs.Bonds.{Set, Here, signs, rights_for, Within, AllUsed, Fit, Match, Names, Ready, Fine, After, Ends, Used, Rightful, here_or, Parts, Planned, Sound, Proper}
+use Rattle.merc_script_laws.proofs.Bonds.{Counted, Goes, Set, Here, signs, rights_for, Within, AllUsed, Fit, Match, Names, Ready, Fine, After, Ends, Used, Rightful, here_or, Parts, Planned, Sound, Proper}
 use Rattle.merc_script_laws.proofs.RightLists.{those_in, in_those, those_once, is_not, not_not}
 use Rattle.merc_script_laws.proofs.Steps.{Waits, IsIn, AreApart, fit_waited, match_waited, ready_waited, moves_waited, fine_waited, after_waited}
 use Rattle.merc_script_laws.proofs.Holding.{waitable}
@@ -62,10 +62,6 @@ use Rattle.merc_script_laws.proofs.Sights.{fine_for, fits_for, AllSound, AllCert
 use Rattle.merc_script_laws.proofs.ConjunctsKeep.{GivesProper, EachGoes}
 use Rattle.merc_script_laws.proofs.Behind.{empty_fine, empty_fits}
 use Rattle.merc_script_laws.proofs.ForkUses.{unit, unit_along, unit_keeps, unit_quiet}
-
--- as many rights to signal each variable as it is signalled
-abbrev pub Counted : List Right → Hold → Type 0
-Counted s hold = (x : ℕ) → are_for s x ≡ true → length (rights_for x s) ≡ length (signs x hold)
 
 both_none : (xs ys : List Refusal) → xs ++ ys ≡ [] → (xs ≡ []) × (ys ≡ [])
 both_none [] ys h = (refl, h)
@@ -328,3 +324,13 @@ module _ (known : Module) (types i : Instance) (declared : AreGoodTypes known.ty
 
     pub par_shaped : (later : ℕ → Bool) (w s : List Right) → outputs_of (made later w s) ≡ outputs
     par_shaped later w s = between_outputs (staying later w) output_goals (forking (moving later w) s)
+
+    -- what a parallel conjunction does whose conjuncts go as they should
+    pub goes_par : Goes known types i program calls plan split course whole made due
+    goes_par = record {
+      along = λ later w s out b seen here hold full p all within sound fits fit match ready names counted. par_along out b seen sound later w s here hold full p within fits fit match ready names counted;
+      uses = λ later w s out b seen here hold rights held g proper is_proper p all sound sure fine fit ready names q. par_uses out b seen sound later w s here hold rights held g proper is_proper p all fine fit ready names q;
+      quiet = λ later out b seen here hold p sound fine fit ready names. par_quiet out b seen sound later here hold p fine fit ready names;
+      rated = par_rated;
+      shaped = par_shaped;
+    }
