@@ -95,7 +95,7 @@ module _ (known : Module) (trees : List Node) (sound : IsSoundProgram known tree
       body_along =
           goes.along nothing [] [] (is_argument mode.args) (bound_at mode.args) [] (bound_here (bound_at mode.args) env) (holding env next) env at.planned (λ x h. clash h refl) (λ x h. clash h refl)
           (sound_body known (program p) declared mode is i) body_there (alone_fit (bound_at mode.args) env next) (alone_match env next)
-          (alone_ready known is.body.types i (is_argument mode.args) (bound_at mode.args) (in_node tree) [] env body_there) (alone_names env next)
+          (alone_ready known is.body.types i (is_argument mode.args) (bound_at mode.args) (in_node tree) [] env body_there) (alone_names env next) (λ x h. clash h refl)
 
       body_quiet : Quiet next [] inner
       body_quiet =

@@ -65,7 +65,7 @@ module _ (known : Module) (trees : List Node) (sound : IsSoundProgram known tree
   pub alone_along : Like AloneEnds (flat alone) (events alone_trace) × Sure alone
   alone_along =
       goes.along nothing [] [] out b seen (bound_here b env) (holding env first_name) env (goal_planned trees tree) (λ x h. clash h refl) (λ x h. clash h refl) is fits (alone_fit b env first_name) (alone_match env first_name)
-      (alone_ready known types i out b (in_node tree) seen env fits) (alone_names env first_name)
+      (alone_ready known types i out b (in_node tree) seen env fits) (alone_names env first_name) (λ x h. clash h refl)
 
   pub alone_quiet : Quiet first_name [] alone
   alone_quiet =
