@@ -11,16 +11,15 @@ use Rattle.merc_order.specs.Procedures.{modes_of}
 use Rattle.merc_order_laws.specs.Bindings.{Variables}
 use Rattle.merc_order_laws.specs.WrittenGoals.{basic_goals, written_goal}
 use Rattle.merc_grading.specs.Known.{Known}
-use Rattle.merc_meaning.specs.Trace.{Env, Trace}
+use Rattle.merc_meaning.specs.Trace.{Env}
 use Rattle.merc_meaning.specs.Runs.{Program, call_trace}
 use Rattle.merc_meaning.specs.Programs.{program_with}
-use Rattle.merc_program_laws.specs.GoodPrograms.{AreGoodTypes, HasLiteral}
+use Rattle.merc_program_laws.specs.GoodPrograms.{HasLiteral}
 use Rattle.merc_program_laws.proofs.Graded.{Graded, graded_has}
 use Rattle.merc_program_laws.proofs.Lawful.{Fits}
 use Rattle.merc_program_laws.proofs.NumberedBodies.{all_both}
 use Rattle.merc_program_laws.proofs.Values.{Instance}
 use Rattle.merc_par_split.specs.Sites.{all_sites}
-use Rattle.merc_plan.specs.Branch.{Hold, BranchCourse}
 use Rattle.merc_plan.specs.Hold.{holding}
 use Rattle.merc_plan.specs.Branches.{Plan, call_branch, first_name}
 use Rattle.merc_plan.proofs.Valuing.{split_stands}

@@ -10,7 +10,7 @@ use Rattle.merc_plan.specs.Branch.{HeldWait, HeldSignal, Hold, NamedCell, names,
 use Rattle.merc_plan.specs.Hold.{wait_for, named, own_waits, own_signals, child_for, moves_if, moves_from, goes_to, waits_into, signals_into, stays, fork_of, conjunct_hold}
 use Rattle.merc_plan.proofs.Judging.{makes, uses, signals_to, waits_to}
 use Rattle.merc_plan.proofs.Sets.{clash, absent, same_number, is_same, and_both, both_and, not_true, true_not}
-use Rattle.merc_script_laws.proofs.Members.{Member, passes, numbered, number_in, map_both, map_twice, filter_both}
+use Rattle.merc_script_laws.proofs.Members.{Member, numbered, number_in, map_both, map_twice, filter_both}
 
 -- Cells by name.
 

@@ -36,7 +36,7 @@ use Rattle.merc_par_split.proofs.PlannedCounts.{planned_count}
 use Rattle.merc_plan.specs.Branch.{Hold, NamedCell, BranchCourse, BranchCourses, Gift, gift_at, gives}
 use Rattle.merc_plan.specs.Hold.{child_for}
 use Rattle.merc_plan.specs.Branches.{Plan, conjunct_gifts}
-use Rattle.merc_plan.proofs.Flat.{Flat, Done, Answer, each, behind, Det, Answers, Like, events}
+use Rattle.merc_plan.proofs.Flat.{Flat, Done, Answer, behind, Det, Answers, Like, events}
 use Rattle.merc_plan.proofs.Judging.{flat, flats, Sure, AllSure, signals_to, Keeps}
 use Rattle.merc_plan.proofs.Likes.{like_det, like_with}
 use Rattle.merc_plan.proofs.Events.{events_each}

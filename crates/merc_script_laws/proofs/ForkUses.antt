@@ -1,5 +1,5 @@
 -- A fork with the waits for what its conjuncts bind: it goes as the conjunction does in the trace, keeps to its rights, and is quiet where nothing moves.
-use Rattle.std.proofs.Common.{◌≡◌, ◌⊎◌, inl, inr, ℕ, suc, ◌+◌, ◌≤◌, ◌<◌, Bool, true, false, not, ◌==◌, ◌&&◌, List, [], ◌++◌, length, map, filter, Option, Some, None, refl, ap, sym, subst, ◌∙◌, arith}
+use Rattle.std.proofs.Common.{◌≡◌, ◌⊎◌, inl, inr, ℕ, suc, ◌≤◌, ◌<◌, Bool, true, false, not, ◌==◌, ◌&&◌, List, [], ◌++◌, length, map, filter, Option, Some, None, refl, ap, sym, subst, ◌∙◌, arith}
 use Rattle.merc_base.specs.Category.{most_of}
 use Rattle.merc_base.specs.declared.category.Most.TheVariants.{Zero}
 use Rattle.merc_base.specs.declared.place.Span.{Span}

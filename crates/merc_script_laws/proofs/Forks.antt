@@ -12,7 +12,7 @@ use Rattle.merc_graded_tree.specs.declared.entries.Running.TheVariants.{Parallel
 use Rattle.merc_graded_tree.specs.declared.basic.Site.{Site}
 use Rattle.merc_graded_tree.specs.Nodes.{Node, node, Conjunction, Nodes, no_nodes, more_nodes, list_of, outputs_of, category_of}
 use Rattle.merc_graded_tree.specs.Variables.{among, in_node, in_nodes}
-use Rattle.merc_order.specs.Bound.{Bound, with}
+use Rattle.merc_order.specs.Bound.{Bound}
 use Rattle.merc_order.specs.Procedures.{modes_of}
 use Rattle.merc_order_laws.specs.Bindings.{Variables}
 use Rattle.merc_order_laws.specs.GoodTree.{GoodNodes}
@@ -49,7 +49,7 @@ use Rattle.merc_plan.proofs.Events.{events_once}
 use Rattle.merc_plan.proofs.Holds.{keeps_once, keeps_end, quiet_once}
 use Rattle.merc_plan.proofs.Sets.{tell}
 use Rattle.merc_script_laws.specs.Parallel.{all_outputs, AllKeepOutputs, AllHaveFew}
-use Rattle.merc_script_laws.proofs.Bonds.{Counted, Goes, Set, Here, signs, rights_for, Within, AllUsed, Fit, Match, Names, Ready, Fine, After, Ends, Used, Rightful, here_or, Parts, Planned, Sound, Proper}
+use Rattle.merc_script_laws.proofs.Bonds.{Counted, Goes, Set, Here, signs, Within, AllUsed, Fit, Match, Names, Ready, Fine, After, Ends, Used, Rightful, here_or, Parts, Planned, Sound, Proper}
 use Rattle.merc_script_laws.proofs.RightLists.{those_in, in_those, those_once, is_not, not_not}
 use Rattle.merc_script_laws.proofs.Steps.{Waits, IsIn, AreApart, fit_waited, match_waited, ready_waited, moves_waited, fine_waited, after_waited}
 use Rattle.merc_script_laws.proofs.Holding.{waitable}

@@ -264,7 +264,7 @@ module _ (known : Module) (types i : Instance) (declared : AreGoodTypes known.ty
             (fit_rest (in_node n) (in_nodes ns) later b here w s outs hold e f k.0.0) (match_rest (in_node n) (in_nodes ns) later b here w s outs hold e full q f t k.0.0 k.0.1.0 k.0.1.1)
             (ready_rest (in_node n) (in_nodes ns) later b here w s outs hold e r) (k.0.0.names names)
             (λ x h. let j = those_in (unused (among outs)) s x h in ap length (for_those (unused (among outs)) x s j.1) ∙ counted x j.0
-                ∙ ap length (sym (k.0.0.unsigned x (not_those (among outs) s x (λ a c. clash c (not_not (among outs x) j.1)))))) in (
+            ∙ ap length (sym (k.0.0.unsigned x (not_those (among outs) s x (λ a c. clash c (not_not (among outs x) j.1)))))) in (
               like_more (Ends q Behind (unused_in n w) (unbound_in n s) later outs1 e) Q
                   (λ e1 q1 l. (moves_both (in_node n) (in_nodes ns) later b here w s outs hold e outs1 e1 k.0.0 l.0, (l.1.0, λ x v h. l.1.1 x v (k.0.1.1 x v h))))
                   (flat (go_on e)) (events (all_trace program calls ns q)) a.0,

@@ -1,5 +1,5 @@
 -- The rights of a conjunct: to own cells of the fork, or of those that its parent holds.
-use Rattle.std.proofs.Common.{◌≡◌, ◌⊎◌, inl, inr, ℕ, ◌+◌, ◌≤◌, ◌<◌, Bool, true, false, not, ◌==◌, if◌then◌else◌, nat_eq, List, ◌++◌, length, map, filter, Option, Some, None, refl, ap, sym, subst, ◌∙◌, arith}
+use Rattle.std.proofs.Common.{◌≡◌, ◌⊎◌, inl, inr, ℕ, ◌+◌, ◌≤◌, ◌<◌, Bool, true, false, ◌==◌, if◌then◌else◌, nat_eq, List, ◌++◌, length, map, filter, Option, Some, None, refl, ap, sym, subst, ◌∙◌, arith}
 use Rattle.merc_value.specs.Value.{Value}
 use Rattle.merc_graded_tree.specs.Nodes.{Node, Nodes}
 use Rattle.merc_graded_tree.specs.Variables.{among, in_node}

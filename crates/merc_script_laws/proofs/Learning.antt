@@ -11,7 +11,6 @@ use Rattle.merc_order_laws.specs.Bindings.{Variables}
 use Rattle.merc_order_laws.specs.GoodTree.{behind_nodes, GoodBasic, GoodNode, GoodGoal, GoodNodes}
 use Rattle.merc_order_laws.proofs.Facts.{clash, or_left, or_right, either_way}
 use Rattle.merc_grading.specs.Known.{Known, known_of, with_known, known_behind_basic, known_behind, known_behind_goal, known_behind_all}
-use Rattle.merc_meaning.specs.Steps.{bound}
 use Rattle.merc_program_laws.proofs.Values.{same_some, same_number, among_here}
 use Rattle.merc_script_laws.proofs.Seen.{behind_other}
 

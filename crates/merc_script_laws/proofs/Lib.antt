@@ -51,7 +51,6 @@ pub mod Sights
 pub mod ConjunctsKeep
 pub mod ConjunctsAlong
 pub mod Dets
-pub mod Begins
 pub mod Behind
 pub mod BehindWaits
 pub mod BindingOnce

@@ -24,7 +24,7 @@ use Rattle.merc_plan.proofs.Flat.{once_if, events}
 use Rattle.merc_plan.proofs.Judging.{flat}
 use Rattle.merc_plan.proofs.Likes.{like_more, once_twice}
 use Rattle.merc_plan.proofs.Events.{events_once}
-use Rattle.merc_script_laws.proofs.Bonds.{Counted, Set, Fit, Ends, here_or, Goes}
+use Rattle.merc_script_laws.proofs.Bonds.{Set, Fit, Ends, here_or, Goes}
 use Rattle.merc_script_laws.proofs.Steps.{Waits, fit_waited, match_waited, ready_waited, fine_waited}
 use Rattle.merc_script_laws.proofs.Holding.{waitable}
 use Rattle.merc_script_laws.proofs.Sides.{divides_first, around_along, around_uses}

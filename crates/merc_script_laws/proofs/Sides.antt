@@ -117,7 +117,7 @@ module _ (plan : Plan) (program : Program) (call : Procedure → Hold → Branch
         one : (e : Hold) (f : Env) → Inside full hold1 e f → Like (Answers full) (flat (sending plan program call span s1 e)) (Answer f Done)
         one e f k =
             let g = signals_flat plan program call span s1 e (k.0.names (m.names names))
-                (λ x h. ap length (all x h) ∙ counted x (sd.in1 x h) ∙ ap length (sym (k.0.unsigned x (not_for s2 x (λ j. sd.apart x h j)) ∙ m.unsigned x refl))) (λ x h. k.0.fresh x (within x (sd.in1 x h))) in
+            (λ x h. ap length (all x h) ∙ counted x (sd.in1 x h) ∙ ap length (sym (k.0.unsigned x (not_for s2 x (λ j. sd.apart x h j)) ∙ m.unsigned x refl))) (λ x h. k.0.fresh x (within x (sd.in1 x h))) in
             subst (λ z. Like (Answers full) z (Answer f Done)) (sym g.is_flat) (ends_inside full hold1 e g.hold1 f m g.sends g.still g.unsigned k, tt)
 
       pub around_along : Names hold → Counted s hold → ((x : ℕ) → are_for s1 x ≡ true → rights_for x s1 ≡ rights_for x s) → (b : Bound) (full : Env) (u : Flat Env) → Within s outs → once_if once u ≡ u → Waitable hold → Fit b here w hold → AreDistinct (variables_of w1) → Match w hold full

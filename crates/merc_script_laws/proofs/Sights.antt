@@ -1,5 +1,5 @@
 -- What parallel conjuncts know, and that what they are given is of its type and has the symbols that are known of it.
-use Rattle.std.proofs.Common.{◌≡◌, ◌⊎◌, inl, inr, ℕ, suc, ◌+◌, ◌<◌, true, false, ◌==◌, if◌then◌else◌, List, [], ◌++◌, length, Option, Some, None, refl, ap, sym, subst, ◌∙◌}
+use Rattle.std.proofs.Common.{◌≡◌, ◌⊎◌, inl, inr, ℕ, suc, ◌<◌, true, false, ◌==◌, if◌then◌else◌, List, [], ◌++◌, length, Option, Some, None, refl, ap, sym, subst, ◌∙◌}
 use Rattle.std.specs.Prelude.{⊤}
 use Rattle.merc_base.specs.Category.{can_fail_of, most_of}
 use Rattle.merc_base.specs.declared.category.Category.{Category}
@@ -29,7 +29,7 @@ use Rattle.merc_core.specs.Rights.{has}
 use Rattle.merc_core.specs.WellFormed.{AreDistinct}
 use Rattle.merc_par_split.specs.Rights.{Right, users}
 use Rattle.merc_par_split.specs.Sites.{are_for}
-use Rattle.merc_plan.specs.Branch.{Hold, NamedCell, names, Gift, gift_at, value_given}
+use Rattle.merc_plan.specs.Branch.{Hold, NamedCell, Gift, gift_at, value_given}
 use Rattle.merc_plan.specs.Hold.{child_for}
 use Rattle.merc_plan.proofs.Sets.{tell, or_left, or_right, look_past, look_before, in_either}
 use Rattle.merc_script_laws.specs.Parallel.{all_outputs}

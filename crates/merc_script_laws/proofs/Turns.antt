@@ -29,7 +29,7 @@ use Rattle.merc_plan.proofs.Judging.{flat}
 use Rattle.merc_plan.proofs.Likes.{like_more}
 use Rattle.merc_plan.proofs.Holds.{keeps_once, keeps_end, quiet_once}
 use Rattle.merc_script_laws.specs.Parallel.{AreWithin, all_outputs}
-use Rattle.merc_script_laws.proofs.Bonds.{Counted, Set, After, Ends, Used, Rightful, Sound, Goes}
+use Rattle.merc_script_laws.proofs.Bonds.{Set, After, Ends, Used, Rightful, Sound, Goes}
 use Rattle.merc_script_laws.proofs.RightLists.{bound_both}
 use Rattle.merc_script_laws.proofs.Steps.{after_binds}
 use Rattle.merc_script_laws.proofs.Leaf.{wrap}

@@ -1,6 +1,9 @@
 //! Laws of the scripts of accepted goals.
 ghost use Rattle.merc_script_laws.specs.ScriptLaws.{
-    GoalsStandAtScripts, JoinsShowTraces, ScriptsAreWellFormed, ScriptsShowRuns,
+  GoalsStandAtScripts,
+  JoinsShowTraces,
+  ScriptsAreWellFormed,
+  ScriptsShowRuns,
 };
 
 /// The script of each accepted goal is well formed, so that what holds of the core holds of it.
