@@ -54,17 +54,16 @@ use Rattle.merc_script_laws.proofs.SiteMoves.{good_occurs}
 use Rattle.merc_script_laws.proofs.Kids.{own, fact_of, OwnSign, sign_cases, same_own, own_low, own_sign, signs_cell}
 use Rattle.merc_script_laws.proofs.Conjuncts.{rightful_k, fork, at_next, this_one, names_k, fit_k, ready_k, match_k, own_right}
 use Rattle.merc_script_laws.proofs.Sights.{FineFor, handed, Nonzero, zero_or, AllSound, AllCertain, sights_next}
-use Rattle.merc_script_laws.proofs.ConjunctsKeep.{GivesProper, planned_left, planned_right, EachGoes, Stands, Sees, Proper, site, kids, waits, signals, goal, same, all_used, is_within, kid_hold, kid, rights, may_wait, kid_here, ProperOf, KidEnd, kid_uses}
+use Rattle.merc_script_laws.proofs.ConjunctsKeep.{planned_left, planned_right, EachGoes, Stands, Sees, Proper, site, kids, waits, signals, goal, same, all_used, is_within, kid_hold, kid, rights, may_wait, kid_here, ProperOf, KidEnd, kid_uses}
 
 smaller : (j k : ℕ) → nat_eq j k ≡ false → j < suc k → j < k
 smaller j k e l = grind (arith, nat_tests, e, l)
 
 -- Given are the module, the types of the variables, and what type variables stand for.
-module _ (known : Module) (types i : Instance) (declared : AreGoodTypes known.types) (program : Program) (calls : Procedure → Env → Trace) (lawful : LawfulCalls known program calls) (plan : Plan) (split : Program) (course : Procedure → Hold → BranchCourse)
-    (offers : GivesProper) where
+module _ (known : Module) (types i : Instance) (declared : AreGoodTypes known.types) (program : Program) (calls : Procedure → Env → Trace) (lawful : LawfulCalls known program calls) (plan : Plan) (split : Program) (course : Procedure → Hold → BranchCourse) where
   module _ (goals : Nodes) (outputs : List ℕ) (w s : List Right) (out : Variables) (b : Bound) (seen : Known) (here : Set) (hold : Hold) (distinct : AreDistinct (all_outputs goals)) (free : (x : ℕ) → has x (all_outputs goals) ≡ true → b x ≡ false)
       (fit : Fit b here w hold) (ready : Ready here w b (in_nodes goals)) (names_are : Names hold) (single : (x : ℕ) → are_for w x ≡ true → (length (users 1 goals x) == 1) ≡ true) (fine : FineFor known types i declared out b (in_nodes goals) seen w hold)
-      (goes : EachGoes known types i declared program calls plan split course offers goals) (counts : (x : ℕ) → are_for s x ≡ true → length (rights_for x s) ≡ length (signs x hold)) (full : Env) (match : Match w hold full) where
+      (goes : EachGoes known types i declared program calls plan split course goals) (counts : (x : ℕ) → are_for s x ≡ true → length (rights_for x s) ≡ length (signs x hold)) (full : Env) (match : Match w hold full) where
     -- where the trace stands at conjunct k, and what those to its left have given
     pub record Going (k : ℕ) (bk : Bound) (outk : Variables) (seenk : Known) (ns : Nodes) (given : List Gift) (fullk : Env) : Type 0 where
       pub fits : Fits known types i outk bk (in_nodes ns) seenk fullk
@@ -85,7 +84,7 @@ module _ (known : Module) (types i : Instance) (declared : AreGoodTypes known.ty
       above j k e l = grind (arith, nat_tests, e, l)
 
     -- what was given is what the trace has, so it is proper
-    going_proper : (k : ℕ) (bk : Bound) (outk : Variables) (seenk : Known) (ns : Nodes) (given : List Gift) (fullk : Env) → Going k bk outk seenk ns given fullk → Proper known types i declared program calls plan split course offers goals outputs w s out b seen here hold distinct free fit ready names_are single fine goes counts k seenk given
+    going_proper : (k : ℕ) (bk : Bound) (outk : Variables) (seenk : Known) (ns : Nodes) (given : List Gift) (fullk : Env) → Going k bk outk seenk ns given fullk → Proper known types i declared program calls plan split course goals outputs w s out b seen here hold distinct free fit ready names_are single fine goes counts k seenk given
     going_proper k bk outk seenk ns given fullk g one m v e = on (before one.producer k) where
       given_one : (u : Value) → gift_at one.cell given ≡ Some (Some u) → u ≡ v
       given_one u p = same_some (same_some (sym p ∙ e))
@@ -99,29 +98,29 @@ module _ (known : Module) (types i : Instance) (declared : AreGoodTypes known.ty
         none_some : None ≡ Some (Some v) → ⊥
         none_some p = absurd (cc)
 
-    module _ (at k : ℕ) (left : List ℕ) (bk : Bound) (outk : Variables) (seenk : Known) (n : Node) (ns : Nodes) (a : Stands known types i declared program calls plan split course offers goals outputs w s out b seen here hold distinct free fit ready names_are single fine goes counts k left bk (more_nodes n ns))
-        (q : Sees known types i declared program calls plan split course offers goals outputs w s out b seen here hold distinct free fit ready names_are single fine goes counts k left bk outk seenk (more_nodes n ns)) (sound : Sound known types i (with outk (in_nodes ns)) bk seenk n) (certain : can_fail_of (category_at n) ≡ false)
-        (given : List Gift) (fullk : Env) (g : Going k bk outk seenk (more_nodes n ns) given fullk) (planned_here : Planned plan at (planned nothing (waits known types i declared program calls plan split course offers goals outputs w s out b seen here hold distinct free fit ready names_are single fine goes counts at k left bk outk seenk n ns a q sound certain given) (signals known types i declared program calls plan split course offers goals outputs w s out b seen here hold distinct free fit ready names_are single fine goes counts at k left bk outk seenk n ns a q sound certain given) n)) where
-      proper_here : Proper known types i declared program calls plan split course offers goals outputs w s out b seen here hold distinct free fit ready names_are single fine goes counts k seenk given
+    module _ (at k : ℕ) (left : List ℕ) (bk : Bound) (outk : Variables) (seenk : Known) (n : Node) (ns : Nodes) (a : Stands known types i declared program calls plan split course goals outputs w s out b seen here hold distinct free fit ready names_are single fine goes counts k left bk (more_nodes n ns))
+        (q : Sees known types i declared program calls plan split course goals outputs w s out b seen here hold distinct free fit ready names_are single fine goes counts k left bk outk seenk (more_nodes n ns)) (sound : Sound known types i (with outk (in_nodes ns)) bk seenk n) (certain : can_fail_of (category_at n) ≡ false)
+        (given : List Gift) (fullk : Env) (g : Going k bk outk seenk (more_nodes n ns) given fullk) (planned_here : Planned plan at (planned nothing (waits known types i declared program calls plan split course goals outputs w s out b seen here hold distinct free fit ready names_are single fine goes counts at k left bk outk seenk n ns a q sound certain given) (signals known types i declared program calls plan split course goals outputs w s out b seen here hold distinct free fit ready names_are single fine goes counts at k left bk outk seenk n ns a q sound certain given) n)) where
+      proper_here : Proper known types i declared program calls plan split course goals outputs w s out b seen here hold distinct free fit ready names_are single fine goes counts k seenk given
       proper_here = going_proper k bk outk seenk (more_nodes n ns) given fullk g
 
       abbrev pub course_k : BranchCourse
-      course_k = kid known types i declared program calls plan split course offers goals outputs w s out b seen here hold distinct free fit ready names_are single fine goes counts at k left bk outk seenk n ns a q sound certain given
+      course_k = kid known types i declared program calls plan split course goals outputs w s out b seen here hold distinct free fit ready names_are single fine goes counts at k left bk outk seenk n ns a q sound certain given
 
       abbrev pub hold_here : Hold
-      hold_here = kid_hold known types i declared program calls plan split course offers goals outputs w s out b seen here hold distinct free fit ready names_are single fine goes counts at k left bk outk seenk n ns a q sound certain given
+      hold_here = kid_hold known types i declared program calls plan split course goals outputs w s out b seen here hold distinct free fit ready names_are single fine goes counts at k left bk outk seenk n ns a q sound certain given
 
       abbrev pub trace_k : Flat Env
       trace_k = events (node_trace program calls n fullk)
 
       abbrev pub KidLike : Hold → Env → Type 0
-      KidLike = Ends fullk (kid_here known types i declared program calls plan split course offers goals outputs w s out b seen here hold distinct free fit ready names_are single fine goes counts at k left bk outk seenk n ns a q sound certain given) (waits known types i declared program calls plan split course offers goals outputs w s out b seen here hold distinct free fit ready names_are single fine goes counts at k left bk outk seenk n ns a q sound certain given) (signals known types i declared program calls plan split course offers goals outputs w s out b seen here hold distinct free fit ready names_are single fine goes counts at k left bk outk seenk n ns a q sound certain given) nothing (outputs_of n) hold_here
+      KidLike = Ends fullk (kid_here known types i declared program calls plan split course goals outputs w s out b seen here hold distinct free fit ready names_are single fine goes counts at k left bk outk seenk n ns a q sound certain given) (waits known types i declared program calls plan split course goals outputs w s out b seen here hold distinct free fit ready names_are single fine goes counts at k left bk outk seenk n ns a q sound certain given) (signals known types i declared program calls plan split course goals outputs w s out b seen here hold distinct free fit ready names_are single fine goes counts at k left bk outk seenk n ns a q sound certain given) nothing (outputs_of n) hold_here
 
       abbrev pub KidLaw : Env → Type 0
       KidLaw = LawGoes known types i (with outk (in_nodes ns)) (with bk (among (outputs_of n))) (in_node n) (known_behind n seenk) fullk
 
       abbrev pub KidFirst : Hold → Type 0
-      KidFirst e = (h : List ℕ) × KidEnd known types i declared program calls plan split course offers goals outputs w s out b seen here hold distinct free fit ready names_are single fine goes counts at k left bk outk seenk n ns a q sound certain given h (gives course_k) e
+      KidFirst e = (h : List ℕ) × KidEnd known types i declared program calls plan split course goals outputs w s out b seen here hold distinct free fit ready names_are single fine goes counts at k left bk outk seenk n ns a q sound certain given h (gives course_k) e
 
       abbrev pub KidBoth : Hold → Env → Type 0
       KidBoth e p = (KidLike e p × KidLaw p) × Nonzero (category_at n)
@@ -138,11 +137,11 @@ module _ (known : Module) (types i : Instance) (declared : AreGoodTypes known.ty
       law_k = node_law known declared program calls lawful types i n (with outk (in_nodes ns)) bk seenk fullk sound.good sound.graded sound.parts fits_n
 
       pub kid_along : Like KidLike (flat course_k) trace_k × Sure course_k
-      kid_along = (goes k n (this_one goals outputs w s b here hold distinct free fit ready names_are single fine.exact k left bk n ns a (goal known types i declared program calls plan split course offers goals outputs w s out b seen here hold distinct free fit ready names_are single fine goes counts at k left bk outk seenk n ns a q sound certain given) (same known types i declared program calls plan split course offers goals outputs w s out b seen here hold distinct free fit ready names_are single fine goes counts at k left bk outk seenk n ns a q sound certain given) given) at).along nothing (waits known types i declared program calls plan split course offers goals outputs w s out b seen here hold distinct free fit ready names_are single fine goes counts at k left bk outk seenk n ns a q sound certain given) (signals known types i declared program calls plan split course offers goals outputs w s out b seen here hold distinct free fit ready names_are single fine goes counts at k left bk outk seenk n ns a q sound certain given) (with outk (in_nodes ns)) bk seenk (kid_here known types i declared program calls plan split course offers goals outputs w s out b seen here hold distinct free fit ready names_are single fine goes counts at k left bk outk seenk n ns a q sound certain given) hold_here fullk planned_here
-          (all_used known types i declared program calls plan split course offers goals outputs w s out b seen here hold distinct free fit ready names_are single fine goes counts at k left bk outk seenk n ns a q sound certain given) (is_within known types i declared program calls plan split course offers goals outputs w s out b seen here hold distinct free fit ready names_are single fine goes counts at k left bk outk seenk n ns a q sound certain given) sound fits_n (fit_k goals outputs w s b here hold distinct free fit ready names_are single fine.exact k left bk n ns a (goal known types i declared program calls plan split course offers goals outputs w s out b seen here hold distinct free fit ready names_are single fine goes counts at k left bk outk seenk n ns a q sound certain given) (same known types i declared program calls plan split course offers goals outputs w s out b seen here hold distinct free fit ready names_are single fine goes counts at k left bk outk seenk n ns a q sound certain given) given)
-          (match_k goals outputs w s b here hold distinct free fit ready names_are single fine.exact k left bk n ns a (goal known types i declared program calls plan split course offers goals outputs w s out b seen here hold distinct free fit ready names_are single fine goes counts at k left bk outk seenk n ns a q sound certain given) (same known types i declared program calls plan split course offers goals outputs w s out b seen here hold distinct free fit ready names_are single fine goes counts at k left bk outk seenk n ns a q sound certain given) given full fullk match g.kept g.has_value)
-          (ready_k goals outputs w s b here hold distinct free fit ready names_are single fine.exact k left bk n ns a (goal known types i declared program calls plan split course offers goals outputs w s out b seen here hold distinct free fit ready names_are single fine goes counts at k left bk outk seenk n ns a q sound certain given) (same known types i declared program calls plan split course offers goals outputs w s out b seen here hold distinct free fit ready names_are single fine goes counts at k left bk outk seenk n ns a q sound certain given) given) (names_k goals outputs w s b here hold distinct free fit ready names_are single fine.exact k left bk n ns a (goal known types i declared program calls plan split course offers goals outputs w s out b seen here hold distinct free fit ready names_are single fine goes counts at k left bk outk seenk n ns a q sound certain given) (same known types i declared program calls plan split course offers goals outputs w s out b seen here hold distinct free fit ready names_are single fine goes counts at k left bk outk seenk n ns a q sound certain given) given)
-          (rightful_k goals outputs w s b here hold distinct free fit ready names_are single fine.exact k left bk n ns a (goal known types i declared program calls plan split course offers goals outputs w s out b seen here hold distinct free fit ready names_are single fine goes counts at k left bk outk seenk n ns a q sound certain given) (same known types i declared program calls plan split course offers goals outputs w s out b seen here hold distinct free fit ready names_are single fine goes counts at k left bk outk seenk n ns a q sound certain given) given counts).counts
+      kid_along = (goes k n (this_one goals outputs w s b here hold distinct free fit ready names_are single fine.exact k left bk n ns a (goal known types i declared program calls plan split course goals outputs w s out b seen here hold distinct free fit ready names_are single fine goes counts at k left bk outk seenk n ns a q sound certain given) (same known types i declared program calls plan split course goals outputs w s out b seen here hold distinct free fit ready names_are single fine goes counts at k left bk outk seenk n ns a q sound certain given) given) at).along nothing (waits known types i declared program calls plan split course goals outputs w s out b seen here hold distinct free fit ready names_are single fine goes counts at k left bk outk seenk n ns a q sound certain given) (signals known types i declared program calls plan split course goals outputs w s out b seen here hold distinct free fit ready names_are single fine goes counts at k left bk outk seenk n ns a q sound certain given) (with outk (in_nodes ns)) bk seenk (kid_here known types i declared program calls plan split course goals outputs w s out b seen here hold distinct free fit ready names_are single fine goes counts at k left bk outk seenk n ns a q sound certain given) hold_here fullk planned_here
+          (all_used known types i declared program calls plan split course goals outputs w s out b seen here hold distinct free fit ready names_are single fine goes counts at k left bk outk seenk n ns a q sound certain given) (is_within known types i declared program calls plan split course goals outputs w s out b seen here hold distinct free fit ready names_are single fine goes counts at k left bk outk seenk n ns a q sound certain given) sound fits_n (fit_k goals outputs w s b here hold distinct free fit ready names_are single fine.exact k left bk n ns a (goal known types i declared program calls plan split course goals outputs w s out b seen here hold distinct free fit ready names_are single fine goes counts at k left bk outk seenk n ns a q sound certain given) (same known types i declared program calls plan split course goals outputs w s out b seen here hold distinct free fit ready names_are single fine goes counts at k left bk outk seenk n ns a q sound certain given) given)
+          (match_k goals outputs w s b here hold distinct free fit ready names_are single fine.exact k left bk n ns a (goal known types i declared program calls plan split course goals outputs w s out b seen here hold distinct free fit ready names_are single fine goes counts at k left bk outk seenk n ns a q sound certain given) (same known types i declared program calls plan split course goals outputs w s out b seen here hold distinct free fit ready names_are single fine goes counts at k left bk outk seenk n ns a q sound certain given) given full fullk match g.kept g.has_value)
+          (ready_k goals outputs w s b here hold distinct free fit ready names_are single fine.exact k left bk n ns a (goal known types i declared program calls plan split course goals outputs w s out b seen here hold distinct free fit ready names_are single fine goes counts at k left bk outk seenk n ns a q sound certain given) (same known types i declared program calls plan split course goals outputs w s out b seen here hold distinct free fit ready names_are single fine goes counts at k left bk outk seenk n ns a q sound certain given) given) (names_k goals outputs w s b here hold distinct free fit ready names_are single fine.exact k left bk n ns a (goal known types i declared program calls plan split course goals outputs w s out b seen here hold distinct free fit ready names_are single fine goes counts at k left bk outk seenk n ns a q sound certain given) (same known types i declared program calls plan split course goals outputs w s out b seen here hold distinct free fit ready names_are single fine goes counts at k left bk outk seenk n ns a q sound certain given) given)
+          (rightful_k goals outputs w s b here hold distinct free fit ready names_are single fine.exact k left bk n ns a (goal known types i declared program calls plan split course goals outputs w s out b seen here hold distinct free fit ready names_are single fine goes counts at k left bk outk seenk n ns a q sound certain given) (same known types i declared program calls plan split course goals outputs w s out b seen here hold distinct free fit ready names_are single fine goes counts at k left bk outk seenk n ns a q sound certain given) given counts).counts
 
       pub kid_both : Like KidBoth (flat course_k) trace_k
       kid_both = like_with (λ e p. KidLike e p × KidLaw p) (λ p. Nonzero (category_at n)) (flat course_k) trace_k
@@ -152,17 +151,17 @@ module _ (known : Module) (types i : Instance) (declared : AreGoodTypes known.ty
       pub kid_det : runs_beside (category_at n) ≡ true → Det trace_k
       kid_det beside = det_conjunct known types i declared program calls lawful n (with outk (in_nodes ns)) bk seenk fullk beside sound fits_n
 
-      kid_keeps : Keeps (ProperOf known types i declared program calls plan split course offers goals outputs w s out b seen here hold distinct free fit ready names_are single fine goes counts at k left bk outk seenk n ns a q sound certain given) (KidEnd known types i declared program calls plan split course offers goals outputs w s out b seen here hold distinct free fit ready names_are single fine goes counts at k left bk outk seenk n ns a q sound certain given) (rights known types i declared program calls plan split course offers goals outputs w s out b seen here hold distinct free fit ready names_are single fine goes counts at k left bk outk seenk n ns a q sound certain given) (may_wait known types i declared program calls plan split course offers goals outputs w s out b seen here hold distinct free fit ready names_are single fine goes counts at k left bk outk seenk n ns a q sound certain given) [] course_k
-      kid_keeps = kid_uses known types i declared program calls plan split course offers goals outputs w s out b seen here hold distinct free fit ready names_are single fine goes counts at k left bk outk seenk n ns a q sound certain given proper_here planned_here
+      kid_keeps : Keeps (ProperOf known types i declared program calls plan split course goals outputs w s out b seen here hold distinct free fit ready names_are single fine goes counts at k left bk outk seenk n ns a q sound certain given) (KidEnd known types i declared program calls plan split course goals outputs w s out b seen here hold distinct free fit ready names_are single fine goes counts at k left bk outk seenk n ns a q sound certain given) (rights known types i declared program calls plan split course goals outputs w s out b seen here hold distinct free fit ready names_are single fine goes counts at k left bk outk seenk n ns a q sound certain given) (may_wait known types i declared program calls plan split course goals outputs w s out b seen here hold distinct free fit ready names_are single fine goes counts at k left bk outk seenk n ns a q sound certain given) [] course_k
+      kid_keeps = kid_uses known types i declared program calls plan split course goals outputs w s out b seen here hold distinct free fit ready names_are single fine goes counts at k left bk outk seenk n ns a q sound certain given proper_here planned_here
 
       pub kid_first : First KidFirst (flat course_k)
-      kid_first = keeps_gives (ProperOf known types i declared program calls plan split course offers goals outputs w s out b seen here hold distinct free fit ready names_are single fine goes counts at k left bk outk seenk n ns a q sound certain given) (KidEnd known types i declared program calls plan split course offers goals outputs w s out b seen here hold distinct free fit ready names_are single fine goes counts at k left bk outk seenk n ns a q sound certain given) (rights known types i declared program calls plan split course offers goals outputs w s out b seen here hold distinct free fit ready names_are single fine goes counts at k left bk outk seenk n ns a q sound certain given) course_k (may_wait known types i declared program calls plan split course offers goals outputs w s out b seen here hold distinct free fit ready names_are single fine goes counts at k left bk outk seenk n ns a q sound certain given) [] kid_keeps
+      kid_first = keeps_gives (ProperOf known types i declared program calls plan split course goals outputs w s out b seen here hold distinct free fit ready names_are single fine goes counts at k left bk outk seenk n ns a q sound certain given) (KidEnd known types i declared program calls plan split course goals outputs w s out b seen here hold distinct free fit ready names_are single fine goes counts at k left bk outk seenk n ns a q sound certain given) (rights known types i declared program calls plan split course goals outputs w s out b seen here hold distinct free fit ready names_are single fine goes counts at k left bk outk seenk n ns a q sound certain given) course_k (may_wait known types i declared program calls plan split course goals outputs w s out b seen here hold distinct free fit ready names_are single fine goes counts at k left bk outk seenk n ns a q sound certain given) [] kid_keeps
 
       -- it has the right to signal an own cell alone that it makes
-      not_other : (one : NamedCell) → Member one (own goals outputs w s hold) → (one.producer ≡ k → ⊥) → rights known types i declared program calls plan split course offers goals outputs w s out b seen here hold distinct free fit ready names_are single fine goes counts at k left bk outk seenk n ns a q sound certain given one.cell ≡ false
+      not_other : (one : NamedCell) → Member one (own goals outputs w s hold) → (one.producer ≡ k → ⊥) → rights known types i declared program calls plan split course goals outputs w s out b seen here hold distinct free fit ready names_are single fine goes counts at k left bk outk seenk n ns a q sound certain given one.cell ≡ false
       not_other one m away = absent one.cell (signals_to k (fork goals outputs w s b here hold distinct free fit ready names_are single fine.exact)) (λ h.
-          let r = own_right goals outputs w s b here hold distinct free fit ready names_are single fine.exact k left bk n ns a (goal known types i declared program calls plan split course offers goals outputs w s out b seen here hold distinct free fit ready names_are single fine goes counts at k left bk outk seenk n ns a q sound certain given) (same known types i declared program calls plan split course offers goals outputs w s out b seen here hold distinct free fit ready names_are single fine goes counts at k left bk outk seenk n ns a q sound certain given) given counts one.cell h in on r.0 (sign_cases goals outputs w s hold k (goal known types i declared program calls plan split course offers goals outputs w s out b seen here hold distinct free fit ready names_are single fine goes counts at k left bk outk seenk n ns a q sound certain given) given r.0 one.cell r.1.1)) where
-            on : (x : ℕ) → OwnSign goals outputs w s hold k (goal known types i declared program calls plan split course offers goals outputs w s out b seen here hold distinct free fit ready names_are single fine goes counts at k left bk outk seenk n ns a q sound certain given) given x one.cell ⊎ ((child_for true x (site known types i declared program calls plan split course offers goals outputs w s out b seen here hold distinct free fit ready names_are single fine goes counts).moves ≡ Some k) × (has one.cell (signs x hold) ≡ true)) → ⊥
+          let r = own_right goals outputs w s b here hold distinct free fit ready names_are single fine.exact k left bk n ns a (goal known types i declared program calls plan split course goals outputs w s out b seen here hold distinct free fit ready names_are single fine goes counts at k left bk outk seenk n ns a q sound certain given) (same known types i declared program calls plan split course goals outputs w s out b seen here hold distinct free fit ready names_are single fine goes counts at k left bk outk seenk n ns a q sound certain given) given counts one.cell h in on r.0 (sign_cases goals outputs w s hold k (goal known types i declared program calls plan split course goals outputs w s out b seen here hold distinct free fit ready names_are single fine goes counts at k left bk outk seenk n ns a q sound certain given) given r.0 one.cell r.1.1)) where
+            on : (x : ℕ) → OwnSign goals outputs w s hold k (goal known types i declared program calls plan split course goals outputs w s out b seen here hold distinct free fit ready names_are single fine goes counts at k left bk outk seenk n ns a q sound certain given) given x one.cell ⊎ ((child_for true x (site known types i declared program calls plan split course goals outputs w s out b seen here hold distinct free fit ready names_are single fine goes counts).moves ≡ Some k) × (has one.cell (signs x hold) ≡ true)) → ⊥
             on x (inl z) = away (ap (λ (y : NamedCell). y.producer) (sym (same_own goals outputs w s hold z.one one z.there m z.cell)) ∙ z.producer)
             on x (inr z) = let l = names_are.low x one.cell z.1 in let d = own_low goals outputs w s hold one m in absurd (omega (arith, l, d))
 
@@ -196,17 +195,17 @@ module _ (known : Module) (types i : Instance) (declared : AreGoodTypes known.ty
         kept = λ x v h. l.0.0.1.1 x v (g.kept x v h);
         has_value = λ one m h. value one m h (tell (nat_eq one.producer k));
         not_yet = λ one m h. look_past one.cell given (gives course_k) (g.not_yet one m (omega (arith, h)))
-            ∙ keeps_only (ProperOf known types i declared program calls plan split course offers goals outputs w s out b seen here hold distinct free fit ready names_are single fine goes counts at k left bk outk seenk n ns a q sound certain given) (KidEnd known types i declared program calls plan split course offers goals outputs w s out b seen here hold distinct free fit ready names_are single fine goes counts at k left bk outk seenk n ns a q sound certain given) (rights known types i declared program calls plan split course offers goals outputs w s out b seen here hold distinct free fit ready names_are single fine goes counts at k left bk outk seenk n ns a q sound certain given) course_k (may_wait known types i declared program calls plan split course offers goals outputs w s out b seen here hold distinct free fit ready names_are single fine goes counts at k left bk outk seenk n ns a q sound certain given) [] kid_keeps ans one.cell (not_other one m (λ z. absurd (omega (arith, z, h))));
+            ∙ keeps_only (ProperOf known types i declared program calls plan split course goals outputs w s out b seen here hold distinct free fit ready names_are single fine goes counts at k left bk outk seenk n ns a q sound certain given) (KidEnd known types i declared program calls plan split course goals outputs w s out b seen here hold distinct free fit ready names_are single fine goes counts at k left bk outk seenk n ns a q sound certain given) (rights known types i declared program calls plan split course goals outputs w s out b seen here hold distinct free fit ready names_are single fine goes counts at k left bk outk seenk n ns a q sound certain given) course_k (may_wait known types i declared program calls plan split course goals outputs w s out b seen here hold distinct free fit ready names_are single fine goes counts at k left bk outk seenk n ns a q sound certain given) [] kid_keeps ans one.cell (not_other one m (λ z. absurd (omega (arith, z, h))));
       } where
         value : (one : NamedCell) → Member one (own goals outputs w s hold) → one.producer < suc k → (nat_eq one.producer k ≡ true) ⊎ (nat_eq one.producer k ≡ false)
             → (v : Value) × ((gift_at one.cell (given ++ gives course_k) ≡ Some (Some v)) × (value_at p one.variable ≡ Some v))
         value one m h (inl z) =
             let j = same_number one.producer k z in
-            let sign = own_sign goals outputs w s hold k (goal known types i declared program calls plan split course offers goals outputs w s out b seen here hold distinct free fit ready names_are single fine goes counts at k left bk outk seenk n ns a q sound certain given) given one m j in
-            let r = own_right goals outputs w s b here hold distinct free fit ready names_are single fine.exact k left bk n ns a (goal known types i declared program calls plan split course offers goals outputs w s out b seen here hold distinct free fit ready names_are single fine goes counts at k left bk outk seenk n ns a q sound certain given) (same known types i declared program calls plan split course offers goals outputs w s out b seen here hold distinct free fit ready names_are single fine goes counts at k left bk outk seenk n ns a q sound certain given) given counts one.cell
-            (subst (λ l. has one.cell l ≡ true) (sym (rights_signal (site known types i declared program calls plan split course offers goals outputs w s out b seen here hold distinct free fit ready names_are single fine goes counts) k (goal known types i declared program calls plan split course offers goals outputs w s out b seen here hold distinct free fit ready names_are single fine goes counts at k left bk outk seenk n ns a q sound certain given) hold given)) (signs_cell hold_here one.variable one.cell sign)) in
+            let sign = own_sign goals outputs w s hold k (goal known types i declared program calls plan split course goals outputs w s out b seen here hold distinct free fit ready names_are single fine goes counts at k left bk outk seenk n ns a q sound certain given) given one m j in
+            let r = own_right goals outputs w s b here hold distinct free fit ready names_are single fine.exact k left bk n ns a (goal known types i declared program calls plan split course goals outputs w s out b seen here hold distinct free fit ready names_are single fine goes counts at k left bk outk seenk n ns a q sound certain given) (same known types i declared program calls plan split course goals outputs w s out b seen here hold distinct free fit ready names_are single fine goes counts at k left bk outk seenk n ns a q sound certain given) given counts one.cell
+            (subst (λ l. has one.cell l ≡ true) (sym (rights_signal (site known types i declared program calls plan split course goals outputs w s out b seen here hold distinct free fit ready names_are single fine goes counts) k (goal known types i declared program calls plan split course goals outputs w s out b seen here hold distinct free fit ready names_are single fine goes counts at k left bk outk seenk n ns a q sound certain given) hold given)) (signs_cell hold_here one.variable one.cell sign)) in
             let v = first.1.gave r.0 one.cell r.1.0 r.1.1 in
-            let is = (names_k goals outputs w s b here hold distinct free fit ready names_are single fine.exact k left bk n ns a (goal known types i declared program calls plan split course offers goals outputs w s out b seen here hold distinct free fit ready names_are single fine goes counts at k left bk outk seenk n ns a q sound certain given) (same known types i declared program calls plan split course offers goals outputs w s out b seen here hold distinct free fit ready names_are single fine goes counts at k left bk outk seenk n ns a q sound certain given) given).apart r.0 one.variable one.cell r.1.1 sign in
+            let is = (names_k goals outputs w s b here hold distinct free fit ready names_are single fine.exact k left bk n ns a (goal known types i declared program calls plan split course goals outputs w s out b seen here hold distinct free fit ready names_are single fine goes counts at k left bk outk seenk n ns a q sound certain given) (same known types i declared program calls plan split course goals outputs w s out b seen here hold distinct free fit ready names_are single fine goes counts at k left bk outk seenk n ns a q sound certain given) given).apart r.0 one.variable one.cell r.1.1 sign in
             (v.0, (look_past one.cell given (gives course_k) (g.not_yet one m (omega (arith, j))) ∙ v.1.0, ap (value_at p) (sym is) ∙ l.0.0.1.0 r.0 v.0 v.1.1))
         value one m h (inr z) =
             let v = g.has_value one m (smaller one.producer k z h) in
@@ -217,10 +216,10 @@ module _ (known : Module) (types i : Instance) (declared : AreGoodTypes known.ty
     Final given end = Kept full end × ((one : NamedCell) → Member one (own goals outputs w s hold) → (v : Value) × ((gift_at one.cell given ≡ Some (Some v)) × (value_at end one.variable ≡ Some v)))
 
     -- the conjuncts one behind the other, against the trace
-    pub kids_along : (ns : Nodes) (at k : ℕ) (left : List ℕ) (bk : Bound) (outk : Variables) (seenk : Known) → Stands known types i declared program calls plan split course offers goals outputs w s out b seen here hold distinct free fit ready names_are single fine goes counts k left bk ns → Sees known types i declared program calls plan split course offers goals outputs w s out b seen here hold distinct free fit ready names_are single fine goes counts k left bk outk seenk ns
+    pub kids_along : (ns : Nodes) (at k : ℕ) (left : List ℕ) (bk : Bound) (outk : Variables) (seenk : Known) → Stands known types i declared program calls plan split course goals outputs w s out b seen here hold distinct free fit ready names_are single fine goes counts k left bk ns → Sees known types i declared program calls plan split course goals outputs w s out b seen here hold distinct free fit ready names_are single fine goes counts k left bk outk seenk ns
         → AllSound known types i declared outk bk seenk ns → AllCertain known types i declared ns → AllBeside ns → Planned plan at (planned_conjuncts k outputs w s left ns) → (given : List Gift) (fullk : Env) → Going k bk outk seenk ns given fullk
-        → (wt : Flat Hold) (Q : Hold → Env → Type 0) → ((end : Env) → Final (conjunct_gifts plan split course (site known types i declared program calls plan split course offers goals outputs w s out b seen here hold distinct free fit ready names_are single fine goes counts) hold k (placed_conjuncts at k outputs w s left ns) given) end → Like Q wt (Answer end Done))
-        → Like Q (flats (kids known types i declared program calls plan split course offers goals outputs w s out b seen here hold distinct free fit ready names_are single fine goes counts at k left ns given) wt) (events (all_trace program calls ns fullk)) × AllSure (kids known types i declared program calls plan split course offers goals outputs w s out b seen here hold distinct free fit ready names_are single fine goes counts at k left ns given)
+        → (wt : Flat Hold) (Q : Hold → Env → Type 0) → ((end : Env) → Final (conjunct_gifts plan split course (site known types i declared program calls plan split course goals outputs w s out b seen here hold distinct free fit ready names_are single fine goes counts) hold k (placed_conjuncts at k outputs w s left ns) given) end → Like Q wt (Answer end Done))
+        → Like Q (flats (kids known types i declared program calls plan split course goals outputs w s out b seen here hold distinct free fit ready names_are single fine goes counts at k left ns given) wt) (events (all_trace program calls ns fullk)) × AllSure (kids known types i declared program calls plan split course goals outputs w s out b seen here hold distinct free fit ready names_are single fine goes counts at k left ns given)
     kids_along no_nodes at k left bk outk seenk a q sounds certains onces fits given fullk g wt Q end = (
       end fullk (
         g.kept,
@@ -234,18 +233,18 @@ module _ (known : Module) (types i : Instance) (declared : AreGoodTypes known.ty
       tt,
     )
     kids_along (more_nodes n ns) at k left bk outk seenk a q sounds certains onces fits given fullk g wt Q end =
-        let wn = waits known types i declared program calls plan split course offers goals outputs w s out b seen here hold distinct free fit ready names_are single fine goes counts at k left bk outk seenk n ns a q sounds.0 certains.0 given in
-        let sn = signals known types i declared program calls plan split course offers goals outputs w s out b seen here hold distinct free fit ready names_are single fine goes counts at k left bk outk seenk n ns a q sounds.0 certains.0 given in
+        let wn = waits known types i declared program calls plan split course goals outputs w s out b seen here hold distinct free fit ready names_are single fine goes counts at k left bk outk seenk n ns a q sounds.0 certains.0 given in
+        let sn = signals known types i declared program calls plan split course goals outputs w s out b seen here hold distinct free fit ready names_are single fine goes counts at k left bk outk seenk n ns a q sounds.0 certains.0 given in
         let first = planned_left plan at (planned nothing wn sn n) (planned_conjuncts (suc k) outputs w s (left ++ outputs_of n) ns) fits in
         let more = planned_right plan at (forks n) (planned nothing wn sn n) (planned_conjuncts (suc k) outputs w s (left ++ outputs_of n) ns) (planned_count n nothing wn sn) fits in
-        let td = kid known types i declared program calls plan split course offers goals outputs w s out b seen here hold distinct free fit ready names_are single fine goes counts at k left bk outk seenk n ns a q sounds.0 certains.0 given in
+        let td = kid known types i declared program calls plan split course goals outputs w s out b seen here hold distinct free fit ready names_are single fine goes counts at k left bk outk seenk n ns a q sounds.0 certains.0 given in
         let along = kid_along at k left bk outk seenk n ns a q sounds.0 certains.0 given fullk g first in
         let both = kid_both at k left bk outk seenk n ns a q sounds.0 certains.0 given fullk g first in
         let det = kid_det at k left bk outk seenk n ns a q sounds.0 certains.0 given fullk g first onces.0 in
         let one = kid_first at k left bk outk seenk n ns a q sounds.0 certains.0 given fullk g first in
         let R : Hold → Env → Type 0 = KidBoth at k left bk outk seenk n ns a q sounds.0 certains.0 given fullk g first in
         let P : Hold → Type 0 = KidFirst at k left bk outk seenk n ns a q sounds.0 certains.0 given fullk g first in
-        let rest : BranchCourses = kids known types i declared program calls plan split course offers goals outputs w s out b seen here hold distinct free fit ready names_are single fine goes counts (at + forks n) (suc k) (left ++ outputs_of n) ns (given ++ gives td) in
+        let rest : BranchCourses = kids known types i declared program calls plan split course goals outputs w s out b seen here hold distinct free fit ready names_are single fine goes counts (at + forks n) (suc k) (left ++ outputs_of n) ns (given ++ gives td) in
         let rec : (e : Hold) (p : Env) → R e p → P e → Answers (flat td) → Like Q (flats rest wt) (events (all_trace program calls ns p)) × AllSure rest = λ e p l f ans.
         kids_along ns (at + forks n) (suc k) (left ++ outputs_of n) (with bk (among (outputs_of n))) (with outk (in_node n)) (handed (category_at n) (known_behind n seenk) seenk)
         (at_next goals outputs w s b here hold distinct free fit ready names_are single fine.exact k left bk n ns a) (sights_next known types i declared goals outputs w s out b seen here hold distinct free fit ready names_are single fine k left bk outk seenk n ns a q sounds.0 certains.0) sounds.1 certains.1 onces.1 more (given ++ gives td) p (going_next at k left bk outk seenk n ns a q sounds.0 certains.0 given fullk g first e p l f ans) wt Q end in (

@@ -33,7 +33,7 @@ use Rattle.merc_plan.specs.Branch.{Hold, NamedCell, BranchCourse, BranchCourses,
 use Rattle.merc_plan.specs.Hold.{child_for}
 use Rattle.merc_plan.specs.Branches.{Plan, node_branch, conjunct_branches}
 use Rattle.merc_plan.proofs.Judging.{signals_to, waits_to, Whole, Keeps, AllKeep}
-use Rattle.merc_plan.proofs.Holds.{keeps_end, keeps_weaker}
+use Rattle.merc_plan.proofs.Holds.{keeps_end, keeps_weaker, gives_proper}
 use Rattle.merc_plan.proofs.Sets.{clash, in_left, or_left, or_right}
 use Rattle.merc_script_laws.specs.Parallel.{all_outputs}
 use Rattle.merc_script_laws.proofs.Bonds.{Set, signs, rights_for, Within, AllUsed, Fit, Names, Ready, After, Used, Planned, Sound, Goes}
@@ -48,11 +48,6 @@ use Rattle.merc_script_laws.proofs.Placed.{in_placed}
 use Rattle.merc_script_laws.proofs.Kids.{info, own, fact_of, OwnSign, sign_cases, same_own, own_low}
 use Rattle.merc_script_laws.proofs.Conjuncts.{rights_to, fork, At, at_next, here_k, hold_k, this_one, binds_sign, names_k, fit_k, ready_k, rightful_k, own_right}
 use Rattle.merc_script_laws.proofs.Sights.{FineFor, handed, Nonzero, zero_or, gift_sides, AllSound, AllCertain, from_static, static_rest, Sights, sights_next, next_static, AreProper, fine_k}
-
--- What a course gives is proper, where it keeps to its rights.
-abbrev pub GivesProper : Type 1
-GivesProper = (proper : ℕ → Value → Type 0) (end : List ℕ → List Gift → Hold → Type 0) (rights : ℕ → Bool) (t : BranchCourse) (w : List ℕ) (g : List Gift) → Keeps proper end rights w g t → (c : ℕ) (v : Value)
-    → gift_at c (gives t) ≡ Some (Some v) → proper c v
 
 -- sites one behind the other
 listed_left : {A : Type 0} (xs ys : List A) (k : ℕ) (x : A) → slice_get xs k ≡ Some x → slice_get (xs ++ ys) k ≡ Some x
@@ -74,7 +69,7 @@ some_not : {A : Type 0} (o : Option A) (a : A) → o ≡ Some a → o ≢ None
 some_not o a e h = absurd (cc)
 
 -- Given are the module, the types of the variables, and what type variables stand for.
-module _ (known : Module) (types i : Instance) (declared : AreGoodTypes known.types) (program : Program) (calls : Procedure → Env → Trace) (plan : Plan) (split : Program) (course : Procedure → Hold → BranchCourse) (offers : GivesProper) where
+module _ (known : Module) (types i : Instance) (declared : AreGoodTypes known.types) (program : Program) (calls : Procedure → Env → Trace) (plan : Plan) (split : Program) (course : Procedure → Hold → BranchCourse) where
   -- each conjunct does what it should, from any site on
   abbrev pub EachGoes : Nodes → Type 1
   EachGoes goals = (k : ℕ) (n : Node) → nth 1 k goals ≡ Some n → (site : ℕ)
@@ -198,7 +193,7 @@ module _ (known : Module) (types i : Instance) (declared : AreGoodTypes known.ty
           on : (gift_at one.cell given ≡ Some (Some v)) ⊎ ((gift_at one.cell given ≡ None) × (gift_at one.cell (gives kid) ≡ Some (Some v)))
               → (one.producer < suc k) × (HasType known.types v (replaced i (types one.variable)) × ((sy : Symbol) → known_of (handed (category_at n) (known_behind n seenk) seenk) one.variable ≡ Some sy → (vs : Values) × (fields sy v ≡ Some vs)))
           on (inl h) = old (proper one m v h)
-          on (inr h) = new (offers ProperOf KidEnd rights kid may_wait [] kid_uses one.cell v h.1)
+          on (inr h) = new (gives_proper ProperOf KidEnd rights kid may_wait [] kid_uses one.cell v h.1)
 
         -- it uses all its rights to signal, and what it gives is proper for its parent
         pub kid_whole : (parent : ℕ → Value → Type 0) → ((c : ℕ) (v : Value) → ProperOf c v → has c (names (own goals outputs w s hold)) ≡ false → parent c v)

@@ -52,7 +52,7 @@ use Rattle.merc_script_laws.proofs.Kids.{info, cells, own, fact_of, signs_member
 use Rattle.merc_script_laws.proofs.Conjuncts.{at_first}
 use Rattle.merc_script_laws.proofs.Sights.{FineFor, Nonzero, AllSound, AllCertain, sights_first, none_proper}
 use Rattle.merc_script_laws.proofs.ForkSite.{site_fits, own_site, no_moves, branch_count}
-use Rattle.merc_script_laws.proofs.ConjunctsKeep.{GivesProper, EachGoes, kids, kids_keep}
+use Rattle.merc_script_laws.proofs.ConjunctsKeep.{EachGoes, kids, kids_keep}
 use Rattle.merc_script_laws.proofs.ConjunctsAlong.{Going, Final, kids_along}
 use Rattle.merc_script_laws.proofs.ConjunctsEnd.{gifts_all, AllEnd, all_end, kids_some, kids_gave}
 use Rattle.merc_script_laws.proofs.Behind.{own_cells, forked, others_behind, given_behind, moves_behind, kept_behind, gone_behind, unsigned_behind, news_behind}
@@ -67,18 +67,17 @@ given_value None v e = absurd (cc)
 given_value (Some o) v e = ap (λ z. Some z) e
 
 -- Given are the module, the types of the variables, and what type variables stand for.
-module _ (known : Module) (types i : Instance) (declared : AreGoodTypes known.types) (program : Program) (calls : Procedure → Env → Trace) (lawful : LawfulCalls known program calls) (plan : Plan) (split : Program) (course : Procedure → Hold → BranchCourse)
-    (offers : GivesProper) where
+module _ (known : Module) (types i : Instance) (declared : AreGoodTypes known.types) (program : Program) (calls : Procedure → Env → Trace) (lawful : LawfulCalls known program calls) (plan : Plan) (split : Program) (course : Procedure → Hold → BranchCourse) where
   module _ (goals : Nodes) (outputs : List ℕ) (w s : List Right) (later : ℕ → Bool) (out : Variables) (b : Bound) (seen : Known) (here : Set) (hold : Hold) (distinct : AreDistinct (all_outputs goals)) (free : (x : ℕ) → has x (all_outputs goals) ≡ true → b x ≡ false)
       (fit : Fit b here w hold) (ready : Ready here w b (in_nodes goals)) (names_are : Names hold) (moving : (x : ℕ) → are_for w x ≡ true → moves_in later goals x ≡ true) (fine : FineFor known types i declared out b (in_nodes goals) seen w hold)
-      (goes : EachGoes known types i declared program calls plan split course offers goals) (counts : (x : ℕ) → are_for s x ≡ true → length (rights_for x s) ≡ length (signs x hold)) (covered : (x : ℕ) → among outputs x ≡ true → has x (all_outputs goals) ≡ true)
+      (goes : EachGoes known types i declared program calls plan split course goals) (counts : (x : ℕ) → are_for s x ≡ true → length (rights_for x s) ≡ length (signs x hold)) (covered : (x : ℕ) → among outputs x ≡ true → has x (all_outputs goals) ≡ true)
       (free_outputs : AreFree b outputs) (empty : (x : ℕ) (v : Value) → among outputs x ≡ true → Here hold x v → ⊥) (within : Within s outputs) (some : 1 ≤ count goals) (few : count goals ≤ most_conjuncts)
       (sounds : AllSound known types i declared out b seen goals) (certains : AllCertain known types i declared goals) (at : ℕ) (planned_all : Planned plan (suc at) (planned_conjuncts 1 outputs w s [] goals)) (span : Span) where
     pub single : (x : ℕ) → are_for w x ≡ true → (length (users 1 goals x) == 1) ≡ true
     single x h = both_true (not (later x)) (length (users 1 goals x) == 1) (moving x h)
 
     abbrev branches : BranchCourses
-    branches = kids known types i declared program calls plan split course offers goals outputs w s out b seen here hold distinct free fit ready names_are single fine goes counts (suc at) 1 [] goals []
+    branches = kids known types i declared program calls plan split course goals outputs w s out b seen here hold distinct free fit ready names_are single fine goes counts (suc at) 1 [] goals []
 
     abbrev given : List Gift
     given = conjunct_gifts plan split course (info goals outputs w s hold) hold 1 (placed_conjuncts (suc at) 1 outputs w s [] goals) []
@@ -101,13 +100,13 @@ module _ (known : Module) (types i : Instance) (declared : AreGoodTypes known.ty
           let e = f.1.1.1.0 in
           absurd (omega (arith, h, e, l))
 
-      start : Going known types i declared program calls lawful plan split course offers goals outputs w s out b seen here hold distinct free fit ready names_are single fine goes counts full match 1 b out seen goals [] full
+      start : Going known types i declared program calls lawful plan split course goals outputs w s out b seen here hold distinct free fit ready names_are single fine goes counts full match 1 b out seen goals [] full
       start = record { fits = fits; kept = λ x v h. h; has_value = λ one m l. absurd (none_before one m l); not_yet = λ one m l. refl }
 
       abbrev R : Hold → Env → Type 0
       R = Ends full here w s later outputs hold
 
-      at_end : (end : Env) → Final known types i declared program calls lawful plan split course offers goals outputs w s out b seen here hold distinct free fit ready names_are single fine goes counts full match given end → Like R (flat waits_for_outputs) (Answer end Done)
+      at_end : (end : Env) → Final known types i declared program calls lawful plan split course goals outputs w s out b seen here hold distinct free fit ready names_are single fine goes counts full match given end → Like R (flat waits_for_outputs) (Answer end Done)
       at_end end f =
           let same : (x : ℕ) (v : Value) → Here hold x v → value_at end x ≡ Some v = λ x v h. f.0 x v (match.same x v h) in
           let gives : (one : NamedCell) → Member one (own_cells outputs w s goals hold given) → one.consumer ≡ 0 → (v : Value) × ((gift_at one.cell given ≡ Some (Some v)) × (value_at end one.variable ≡ Some v)) = λ one m c. f.1 one m in
@@ -117,7 +116,7 @@ module _ (known : Module) (types i : Instance) (declared : AreGoodTypes known.ty
 
       pub unit_along : Like R (flat unit) (events (all_trace program calls goals full)) × Sure unit
       unit_along =
-          let k = kids_along known types i declared program calls lawful plan split course offers goals outputs w s out b seen here hold distinct free fit ready names_are single fine goes counts full match goals (suc at) 1 [] b out seen
+          let k = kids_along known types i declared program calls lawful plan split course goals outputs w s out b seen here hold distinct free fit ready names_are single fine goes counts full match goals (suc at) 1 [] b out seen
           (at_first goals outputs w s b here hold distinct free fit ready names_are single fine.exact) (sights_first known types i declared goals outputs w s out b seen here hold distinct free fit ready names_are single fine) sounds certains besides planned_all [] full start (flat waits_for_outputs) R (λ end f. at_end end f) in
           (k.0, (k.1, λ a. behind_sure plan split course span outputs (forked outputs w s goals hold given)))
 
@@ -130,10 +129,10 @@ module _ (known : Module) (types i : Instance) (declared : AreGoodTypes known.ty
       is_given c = ap (λ z. gift_at c z) (gifts_all plan split course (info goals outputs w s hold) hold (placed_conjuncts (suc at) 1 outputs w s [] goals) 1 [])
 
       nonzero : Nonzero (conjunction_category (categories (list_of goals)))
-      nonzero = kids_some known types i declared program calls plan split course offers goals outputs w s out b seen here hold distinct free fit ready names_are single fine goes counts goals (suc at) 1 [] b out seen (at_first goals outputs w s b here hold distinct free fit ready names_are single fine.exact) (sights_first known types i declared goals outputs w s out b seen here hold distinct free fit ready names_are single fine) sounds certains planned_all [] (none_proper known types i declared goals outputs w s out b seen here hold distinct free fit ready names_are single fine 1 seen) ans
+      nonzero = kids_some known types i declared program calls plan split course goals outputs w s out b seen here hold distinct free fit ready names_are single fine goes counts goals (suc at) 1 [] b out seen (at_first goals outputs w s b here hold distinct free fit ready names_are single fine.exact) (sights_first known types i declared goals outputs w s out b seen here hold distinct free fit ready names_are single fine) sounds certains planned_all [] (none_proper known types i declared goals outputs w s out b seen here hold distinct free fit ready names_are single fine 1 seen) ans
 
-      the_end : AllEnd known types i declared program calls plan split course offers goals outputs w s out b seen here hold distinct free fit ready names_are single fine goes counts given
-      the_end = all_end known types i declared program calls plan split course offers goals outputs w s out b seen here hold distinct free fit ready names_are single fine goes counts goals (suc at) 1 [] b out seen (at_first goals outputs w s b here hold distinct free fit ready names_are single fine.exact) (sights_first known types i declared goals outputs w s out b seen here hold distinct free fit ready names_are single fine) sounds certains planned_all [] (none_proper known types i declared goals outputs w s out b seen here hold distinct free fit ready names_are single fine 1 seen)
+      the_end : AllEnd known types i declared program calls plan split course goals outputs w s out b seen here hold distinct free fit ready names_are single fine goes counts given
+      the_end = all_end known types i declared program calls plan split course goals outputs w s out b seen here hold distinct free fit ready names_are single fine goes counts goals (suc at) 1 [] b out seen (at_first goals outputs w s b here hold distinct free fit ready names_are single fine.exact) (sights_first known types i declared goals outputs w s out b seen here hold distinct free fit ready names_are single fine) sounds certains planned_all [] (none_proper known types i declared goals outputs w s out b seen here hold distinct free fit ready names_are single fine 1 seen)
 
       known_end : the_end.sight ≡ known_behind_all goals seen
       known_end = (the_end.sees.ends nonzero).0
@@ -213,7 +212,7 @@ module _ (known : Module) (types i : Instance) (declared : AreGoodTypes known.ty
         gave x c h j =
             let m = maker_of 1 x goals (covered x (within x h)) in
             let to = child_signal outputs w s goals distinct x m.0 m.1.0 m.1.1.0 m.1.1.1 h in
-            let v = kids_gave known types i declared program calls plan split course offers goals outputs w s out b seen here hold distinct free fit ready names_are single fine goes counts goals (suc at) 1 [] b out seen (at_first goals outputs w s b here hold distinct free fit ready names_are single fine.exact) (sights_first known types i declared goals outputs w s out b seen here hold distinct free fit ready names_are single fine) sounds certains planned_all [] (none_proper known types i declared goals outputs w s out b seen here hold distinct free fit ready names_are single fine 1 seen) ans m.0 m.1.0 x m.1.1.0 m.1.1.1 in
+            let v = kids_gave known types i declared program calls plan split course goals outputs w s out b seen here hold distinct free fit ready names_are single fine goes counts goals (suc at) 1 [] b out seen (at_first goals outputs w s b here hold distinct free fit ready names_are single fine.exact) (sights_first known types i declared goals outputs w s out b seen here hold distinct free fit ready names_are single fine) sounds certains planned_all [] (none_proper known types i declared goals outputs w s out b seen here hold distinct free fit ready names_are single fine 1 seen) ans m.0 m.1.0 x m.1.1.0 m.1.1.1 in
             let n = name_of hold.next (cells goals outputs w s hold) (cell_for x m.0 0) (output_cell outputs 1 m.0 x m.1.0 goals m.1.1.0 m.1.1.1 (within x h)) in
             let e = given_behind outputs w s goals hold given b here fit names_are distinct covered free_outputs empty hold2 p n.one n.there n.consumer in
             let is : e.0 ≡ v.0 = same_some (sym e.1.0 ∙ ap value_given (is_given n.one.cell ∙ v.1 n.one.cell (inl (n.one, (n.there, (n.producer, (n.variable, refl))))))) in (
@@ -247,7 +246,7 @@ module _ (known : Module) (types i : Instance) (declared : AreGoodTypes known.ty
     unit_keeps good binds occur rights held g proper q is_proper never unreached = (
       subst (λ z. SiteFits z rights g held here_fork) (sym (branch_count plan split course (info goals outputs w s hold) hold outputs w s goals (suc at) 1 [] [])) (site_fits goals outputs w s hold names_are some few outputs rights held g q),
       (
-        kids_keep known types i declared program calls plan split course offers goals outputs w s out b seen here hold distinct free fit ready names_are single fine goes counts proper is_proper goals (suc at) 1 [] b out seen (at_first goals outputs w s b here hold distinct free fit ready names_are single fine.exact) (sights_first known types i declared goals outputs w s out b seen here hold distinct free fit ready names_are single fine) sounds certains planned_all [] (none_proper known types i declared goals outputs w s out b seen here hold distinct free fit ready names_are single fine 1 seen),
+        kids_keep known types i declared program calls plan split course goals outputs w s out b seen here hold distinct free fit ready names_are single fine goes counts proper is_proper goals (suc at) 1 [] b out seen (at_first goals outputs w s b here hold distinct free fit ready names_are single fine.exact) (sights_first known types i declared goals outputs w s out b seen here hold distinct free fit ready names_are single fine) sounds certains planned_all [] (none_proper known types i declared goals outputs w s out b seen here hold distinct free fit ready names_are single fine 1 seen),
         λ ans. behind_keeps plan split course span outputs w s goals hold given b here fit names_are distinct covered free_outputs empty proper
             (Used (After known types i out b outputs (in_nodes goals) seen (known_behind_all goals seen) hold) never here w s later outputs hold held g) rights (without (names (own goals outputs w s hold)) (without (moved false here_fork.moves) held))
             (g ++ gifts_through (moved true here_fork.moves) (all_give branches))
@@ -262,7 +261,7 @@ module _ (known : Module) (types i : Instance) (declared : AreGoodTypes known.ty
       (
         subst (λ z. OwnFits z hold.next here_fork) (sym (branch_count plan split course (info goals outputs w s hold) hold outputs w s goals (suc at) 1 [] [])) (own_site goals outputs w s hold names_are some few),
         (
-          kids_keep known types i declared program calls plan split course offers goals outputs w s out b seen here hold distinct free fit ready names_are single fine goes counts anything (λ x c v h j t f. tt) goals (suc at) 1 [] b out seen (at_first goals outputs w s b here hold distinct free fit ready names_are single fine.exact) (sights_first known types i declared goals outputs w s out b seen here hold distinct free fit ready names_are single fine) sounds certains planned_all [] (none_proper known types i declared goals outputs w s out b seen here hold distinct free fit ready names_are single fine 1 seen),
+          kids_keep known types i declared program calls plan split course goals outputs w s out b seen here hold distinct free fit ready names_are single fine goes counts anything (λ x c v h j t f. tt) goals (suc at) 1 [] b out seen (at_first goals outputs w s b here hold distinct free fit ready names_are single fine.exact) (sights_first known types i declared goals outputs w s out b seen here hold distinct free fit ready names_are single fine) sounds certains planned_all [] (none_proper known types i declared goals outputs w s out b seen here hold distinct free fit ready names_are single fine 1 seen),
           λ ans. behind_quiet plan split course span outputs w s goals hold given b here fit names_are distinct covered free_outputs empty (without (names (own goals outputs w s hold)) []),
         ),
       ),

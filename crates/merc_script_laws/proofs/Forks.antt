@@ -59,7 +59,7 @@ use Rattle.merc_script_laws.proofs.Dets.{AllBeside, conjunct_sure, conjuncts_bes
 use Rattle.merc_script_laws.proofs.Sites.{among_has}
 use Rattle.merc_script_laws.proofs.SiteMoves.{outputs_free, outputs_distinct}
 use Rattle.merc_script_laws.proofs.Sights.{fine_for, fits_for, AllSound, AllCertain}
-use Rattle.merc_script_laws.proofs.ConjunctsKeep.{GivesProper, EachGoes}
+use Rattle.merc_script_laws.proofs.ConjunctsKeep.{EachGoes}
 use Rattle.merc_script_laws.proofs.Behind.{empty_fine, empty_fits}
 use Rattle.merc_script_laws.proofs.ForkUses.{unit, unit_along, unit_keeps, unit_quiet}
 
@@ -91,8 +91,7 @@ goes_behind true f i x ks h = ap (λ t. Forks i x ks t) (after_over (f h))
 goes_behind false f i x ks h = ap (λ t. Forks i x ks t) (after_over (f h))
 
 -- Given are the module, the types of the variables, and what type variables stand for.
-module _ (known : Module) (types i : Instance) (declared : AreGoodTypes known.types) (program : Program) (calls : Procedure → Env → Trace) (lawful : LawfulCalls known program calls) (plan : Plan) (split : Program) (course : Procedure → Hold → BranchCourse)
-    (offers : GivesProper) where
+module _ (known : Module) (types i : Instance) (declared : AreGoodTypes known.types) (program : Program) (calls : Procedure → Env → Trace) (lawful : LawfulCalls known program calls) (plan : Plan) (split : Program) (course : Procedure → Hold → BranchCourse) where
   all_sound : (unknown : Option Site) (ns : Nodes) (out : Variables) (b : Bound) (seen : Known) → GoodNodes (modes_of known.preds) out b ns → GradedAll known.types (modes_of known.preds) types (Parallel unknown) seen ns
       → AllByRecursion (IsPart known types i) (all_basic_goals ns) → AllKeepOutputs (modes_of known.preds) ns → all_faults ns ≡ [] → AllHaveFew ns → AllSound known types i declared out b seen ns
   all_sound unknown no_nodes out b seen good graded parts keeps none few = tt
@@ -106,7 +105,7 @@ module _ (known : Module) (types i : Instance) (declared : AreGoodTypes known.ty
   all_certain no_nodes h = tt
   all_certain (more_nodes n ns) h = (conjunct_sure n h.0, all_certain ns h.1)
 
-  module _ (unknown : Option Site) (goals : Nodes) (outputs : List ℕ) (category : Option Category) (span : Span) (at : ℕ) (goes : EachGoes known types i declared program calls plan split course offers goals) where
+  module _ (unknown : Option Site) (goals : Nodes) (outputs : List ℕ) (category : Option Category) (span : Span) (at : ℕ) (goes : EachGoes known types i declared program calls plan split course goals) where
     abbrev pub whole : Node
     whole = node (Conjunction (Parallel unknown) goals) outputs category span
 
@@ -220,7 +219,7 @@ module _ (known : Module) (types i : Instance) (declared : AreGoodTypes known.ty
           let fine1 = fits_for known types i declared out b (in_nodes goals) seen w2 hold1 full fits match1 in
           let counts1 : Counted s hold1 = λ x h. counts x h ∙ ap length (sym (same_signs hold hold1 a.waits.signals x)) in
           let empty1 : (x : ℕ) (v : Value) → among outputs x ≡ true → Here hold1 x v → ⊥ = empty_fits known types i out b whole sound.good seen hold1 w2 full fits match1 in
-          let u = unit_along known types i declared program calls lawful plan split course offers goals outputs w2 s later out b seen here1 hold1 distinct free fit1 ready1 names1 (does_move later w) fine1 goes counts1 covered sound.good.1 empty1 within
+          let u = unit_along known types i declared program calls lawful plan split course goals outputs w2 s later out b seen here1 hold1 distinct free fit1 ready1 names1 (does_move later w) fine1 goes counts1 covered sound.good.1 empty1 within
           sound.parallel.few.0 sound.parallel.few.1.0 sounds certains at (next_sites later w s p) span besides.0 full match1 fits in
           let R : Hold → Env → Type 0 = Ends full here w s later outputs hold in
           let moved : (e : Hold) (f : Env) → Ends full here1 w2 s later outputs hold1 e f → R e f = λ e f k.
@@ -229,7 +228,7 @@ module _ (known : Module) (types i : Instance) (declared : AreGoodTypes known.ty
           let is = fork_is w2 s hold1 (here_site later w s p) in
           let sure : Sure t = a.is_sure (subst (λ z. Sure z) (sym is) u.1) in
           let like : Like R (flat t) (events (all_trace program calls goals full)) = subst (λ z. Like R z (events (all_trace program calls goals full))) (sym (a.is_flat ∙ ap flat is))
-          (like_more (Ends full here1 w2 s later outputs hold1) R moved (flat (unit known types i declared program calls lawful plan split course offers goals outputs w2 s later out b seen here1 hold1 distinct free fit1 ready1 names1 (does_move later w) fine1 goes counts1 covered sound.good.1 empty1 within sound.parallel.few.0 sound.parallel.few.1.0 sounds certains at (next_sites later w s p) span))
+          (like_more (Ends full here1 w2 s later outputs hold1) R moved (flat (unit known types i declared program calls lawful plan split course goals outputs w2 s later out b seen here1 hold1 distinct free fit1 ready1 names1 (does_move later w) fine1 goes counts1 covered sound.good.1 empty1 within sound.parallel.few.0 sound.parallel.few.1.0 sounds certains at (next_sites later w s p) span))
           (events (all_trace program calls goals full)) u.0) in
           subst (λ z. Like R (flat z) (events (node_trace program calls whole full)) × Sure z) (sym (between_branch w2 s w1 output_goals hold)) (
             subst (λ z. Like R z (events (node_trace program calls whole full))) (sym (flat_once once t sure))
@@ -289,11 +288,11 @@ module _ (known : Module) (types i : Instance) (declared : AreGoodTypes known.ty
           inner : Keeps proper End rights held1 g (in_turn plan split course span (forking (moving later w) s ∷ output_goals) hold1)
           inner = subst (λ z. Keeps proper End rights held1 g z) (sym (fork_is (moving later w) s hold1 (here_site later w s p)))
               (keeps_end proper End Inside rights ends
-              (unit known types i declared program calls lawful plan split course offers goals outputs (moving later w) s later out b seen (here_or here (staying later w)) hold1 distinct free fit1 (ready_waited b here w (staying later w) (moving later w) hold hold1 (parts later w) (stay_in later w) (move_in later w) (sides later w) (in_nodes goals) ready) (m.moves.names names) (does_move later w)
+              (unit known types i declared program calls lawful plan split course goals outputs (moving later w) s later out b seen (here_or here (staying later w)) hold1 distinct free fit1 (ready_waited b here w (staying later w) (moving later w) hold hold1 (parts later w) (stay_in later w) (move_in later w) (sides later w) (in_nodes goals) ready) (m.moves.names names) (does_move later w)
               (fine_for known types i declared out b (in_nodes goals) seen (moving later w) hold1 fine1) goes q1.counts covered sound.good.1 (empty_fine known types i out b whole sound.good seen hold1 fine1) q.within sound.parallel.few.0 sound.parallel.few.1.0 sounds certains at
               (next_sites later w s p) span)
               held1 g
-              (unit_keeps known types i declared program calls lawful plan split course offers goals outputs (moving later w) s later out b seen (here_or here (staying later w)) hold1 distinct free fit1 (ready_waited b here w (staying later w) (moving later w) hold hold1 (parts later w) (stay_in later w) (move_in later w) (sides later w) (in_nodes goals) ready) (m.moves.names names) (does_move later w)
+              (unit_keeps known types i declared program calls lawful plan split course goals outputs (moving later w) s later out b seen (here_or here (staying later w)) hold1 distinct free fit1 (ready_waited b here w (staying later w) (moving later w) hold hold1 (parts later w) (stay_in later w) (move_in later w) (sides later w) (in_nodes goals) ready) (m.moves.names names) (does_move later w)
               (fine_for known types i declared out b (in_nodes goals) seen (moving later w) hold1 fine1) goes q1.counts covered sound.good.1 (empty_fine known types i out b whole sound.good seen hold1 fine1) q.within sound.parallel.few.0 sound.parallel.few.1.0 sounds certains at
               (next_sites later w s p) span sound.good.2.0 sound.good.2.1 sound.good.0 rights held1 g proper q1
               (λ x c v h k t f. is_proper x c v h (back x c k) t (λ some sy e. f (λ z. some (zero_whole z)) sy e)) (most_of (category_at whole) ≡ Zero) whole_zero))
@@ -316,7 +315,7 @@ module _ (known : Module) (types i : Instance) (declared : AreGoodTypes known.ty
           subst (λ z. Quiet hold.next [] z) (sym (between_branch [] [] [] output_goals hold))
           (quiet_once hold.next once (in_turn plan split course span (forking [] [] ∷ output_goals) hold) []
           (subst (λ z. Quiet hold.next [] z) (sym (fork_is [] [] hold (here_site later [] [] p)))
-          (unit_quiet known types i declared program calls lawful plan split course offers goals outputs [] [] later out b seen here hold distinct free fit ready names (λ x h. absurd (none x h)) (fine_for known types i declared out b (in_nodes goals) seen [] hold fine) goes (λ x h. absurd (none x h)) covered sound.good.1
+          (unit_quiet known types i declared program calls lawful plan split course goals outputs [] [] later out b seen here hold distinct free fit ready names (λ x h. absurd (none x h)) (fine_for known types i declared out b (in_nodes goals) seen [] hold fine) goes (λ x h. absurd (none x h)) covered sound.good.1
           (empty_fine known types i out b whole sound.good seen hold fine) (λ x h. absurd (none x h)) sound.parallel.few.0 sound.parallel.few.1.0 sounds certains at (next_sites later [] [] p) span refl refl)))
 
     pub par_rated : (later : ℕ → Bool) (w s : List Right) → category_of (made later w s) ≡ category

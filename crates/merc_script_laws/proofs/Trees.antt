@@ -17,7 +17,6 @@ use Rattle.merc_par_split.specs.Sites.{planned, planned_goal, planned_in_turn, p
 use Rattle.merc_par_split.proofs.PlannedCounts.{planned_count}
 use Rattle.merc_plan.specs.Branch.{Hold, BranchCourse}
 use Rattle.merc_plan.specs.Branches.{Plan}
-use Rattle.merc_plan.proofs.Holds.{gives_proper}
 use Rattle.merc_script_laws.proofs.Bonds.{Goes, Planned}
 use Rattle.merc_script_laws.proofs.CallLeaves.{CallsGo, leaf_basic}
 use Rattle.merc_script_laws.proofs.CallTrees.{GoesAt}
@@ -55,7 +54,7 @@ module _ (known : Module) (types i : Instance) (declared : AreGoodTypes known.ty
         (λ later w s fit. leaf_basic known types i program calls lawful split course go plan outs cat span declared g)
     goes_in (Conjunction Sequential ns) outs cat span site = placed_conj known types i declared program calls lawful plan split course site outs cat span ns (goes_list ns site)
     goes_in (Conjunction (Parallel place) ns) outs cat span site =
-        goes_par known types i declared program calls lawful plan split course gives_proper place ns outs cat span site (λ k n e at. goes_at ns 1 k n e at)
+        goes_par known types i declared program calls lawful plan split course place ns outs cat span site (λ k n e at. goes_at ns 1 k n e at)
     goes_in (Disjunction ns) outs cat span site =
         goes_leaf known types i declared program calls lawful plan split course (Disjunction ns) (Disjunction (placed_alone site ns)) outs cat span (λ later w s. Planned plan site (planned_alone ns))
         (λ later w s fit. leaf_disj known types i declared program calls lawful plan split course ns (placed_alone site ns) outs cat span (goes_each ns site fit))
