@@ -1,10 +1,5 @@
 //! Laws of the scripts of accepted goals.
-ghost use Rattle.merc_script_laws.specs.ScriptLaws.{
-  GoalsStandAtScripts,
-  JoinsShowTraces,
-  ScriptsAreWellFormed,
-  ScriptsShowRuns,
-};
+ghost use Rattle.merc_script_laws.specs.ScriptLaws.{GoalsStandAtScripts, JoinsShowTraces, ScriptsAreWellFormed, ScriptsShowRuns};
 
 /// The script of each accepted goal is well formed, so that what holds of the core holds of it.
 pub fn scripts_are_well_formed()
