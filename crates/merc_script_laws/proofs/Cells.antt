@@ -86,13 +86,6 @@ name_low next infos c h =
     let e = r.1.1 in
     omega (arith, e, l)
 
-pub name_high : (next : ℕ) (infos : List CellInfo) (c : ℕ) → has c (names (named next infos)) ≡ true → c < next + length infos
-name_high next infos c h =
-    let r = numbered (λ (z : NamedCell). z.cell) c (named next infos) h in
-    let l = (of_info next infos r.0 r.1.0).high in
-    let e = r.1.1 in
-    omega (arith, e, l)
-
 pub name_apart : (next : ℕ) (infos : List CellInfo) (c : ℕ) → c < next → has c (names (named next infos)) ≡ false
 name_apart next infos c l = absent c (names (named next infos)) (λ h. let k = name_low next infos c h in absurd (omega (arith, k, l)))
 
