@@ -10,9 +10,10 @@ use Rattle.merc_script.specs.Script.{Script, Ends, TickThen, WaitThen, SignalThe
 use Rattle.merc_script.specs.Joining.{joined, walk}
 use Rattle.merc_core.specs.Rights.{has, without, numbers_of, is_kind, moved, moved_to, made_by, used_by, signals_at, waits_at, signals_behind}
 use Rattle.merc_core.specs.WellFormed.{AreDistinct, ForkFits, CellFits, MoveFits, held_of, EndsWell, Follows, gain, value_in, most_steps, most_children}
-use Rattle.merc_plan.specs.Branch.{NamedCell, Fork, Hold, BranchCourse, Over, Breaks, Steps, Finds, Awaits, Gives, Forks, BranchCourses, no_branches, more_branches, Raised, TooDeep, Starving, names, Gift, gift_at, gifts_through, value_given, gives, all_give}
+use Rattle.merc_plan.specs.Branch.{all_do_answer, NamedCell, Fork, Hold, BranchCourse, Over, Breaks, Steps, Finds, Awaits, Gives, Forks, BranchCourses, no_branches, more_branches, Raised, TooDeep, Starving, names, Gift, gift_at, gifts_through, value_given, gives, all_give}
 use Rattle.merc_plan.specs.BranchScript.{those_of, signalled, all_signalled, valued, going, script, scripts}
 use Rattle.merc_plan.proofs.Flat.{Flat, Done, Halts, Tick, Answer, Answers, behind}
+use Rattle.merc_plan.proofs.Answering.{all_behind}
 use Rattle.merc_plan.proofs.Judging.{flat, flats, AllAnswer, kid_count, makes, uses, signals_to, waits_to, NamedFits, MoveGoes, HoldsRight, SiteFits, OwnFits, Whole, anything, Keeps, AllKeep, Quiet, told_values, NamesFit, NamedFormed, AllNamedFormed}
 use Rattle.merc_plan.proofs.Walks.{WithinLimit, joined_limit, HasMemory, walk_has}
 use Rattle.merc_plan.proofs.Joins.{kids_memory, joined_is_walk, going_fine, walk_fine}
@@ -432,13 +433,15 @@ mutual
       let g' = without (names x.cells) gn in
       let o = joined l (ends (scripts l g' ks)) in
       let next : ℕ → Script = λ u. script false (l - u) (s + u) (g' ++ all_signalled (scripts l g' ks)) t in
-      given_fork c (moved true x.moves) g (all_give ks) (gives t) (all_signalled (scripts l g' ks)) (signalled (going o s next))
+      given_fork c (moved true x.moves) g (all_give ks) (if all_do_answer ks then gives t else []) (all_signalled (scripts l g' ks)) (signalled (going o s next))
       (in_either c (those_of (all_signalled (scripts l g' ks)) (moved true x.moves)) (signalled (going o s next)) h)
       (λ q. all_given proper x 1 ks l g' (kid_count ks) rights w g k.0 k.1.0 wi.1.0 wi.1.1.0 c q)
       (λ q. let n = signalled_going c s o next q in
-      let a = k.1.1 (fine_kids_answer proper x ks l n.0 g' k.1.0 n.1.0) in (
+      let answer = fine_kids_answer proper x ks l n.0 g' k.1.0 n.1.0 in
+      let a = k.1.1 answer in (
         (sig_only proper t rights (l - n.0) (s + n.0) (g' ++ all_signalled (scripts l g' ks)) (waits_past x w) (g ++ gifts_through (moved true x.moves) (all_give ks)) a c n.1.1).1,
-        sig_given proper t rights (l - n.0) (s + n.0) (g' ++ all_signalled (scripts l g' ks)) (waits_past x w) (g ++ gifts_through (moved true x.moves) (all_give ks)) a wi.1.1.1 c n.1.1,
+        subst (λ z. Given c z) (sym (all_behind ks (gives t) answer))
+            (sig_given proper t rights (l - n.0) (s + n.0) (g' ++ all_signalled (scripts l g' ks)) (waits_past x w) (g ++ gifts_through (moved true x.moves) (all_give ks)) a wi.1.1.1 c n.1.1),
       ))
 
   pub all_given : (proper : ℕ → Value → Type 0) (x : Fork) (k : ℕ) (ks : BranchCourses) (l : ℕ) (gn : List ℕ) (n : ℕ) (rights : ℕ → Bool) (w : List ℕ) (g : List Gift) → SiteFits n rights g w x → AllKeep proper x k ks

@@ -5,8 +5,9 @@ use Rattle.std.specs.List.{AllByRecursion}
 use Rattle.merc_value.specs.Value.{Value}
 use Rattle.merc_script.specs.declared.cells.Move.{Move}
 use Rattle.merc_core.specs.Rights.{has, moved}
-use Rattle.merc_plan.specs.Branch.{HeldSignal, Fork, Hold, BranchCourse, Over, Breaks, Steps, Finds, Awaits, Gives, Forks, BranchCourses, no_branches, more_branches, Gift, gift_at, gifts_through, gives, all_give, after, each, taken_back, first_alone, choose, negated}
+use Rattle.merc_plan.specs.Branch.{all_do_answer, HeldSignal, Fork, Hold, BranchCourse, Over, Breaks, Steps, Finds, Awaits, Gives, Forks, BranchCourses, no_branches, more_branches, Gift, gift_at, gifts_through, gives, all_give, after, each, taken_back, first_alone, choose, negated}
 use Rattle.merc_plan.specs.Branches.{once_if}
+use Rattle.merc_plan.proofs.Answering.{none_behind}
 use Rattle.merc_plan.proofs.Judging.{signals_to}
 use Rattle.merc_plan.proofs.Sets.{clash, tell, look_past, gifts_out, given_other, moved_move, each_more}
 
@@ -55,9 +56,9 @@ within_gives (Finds hold t) rights w c r n = refl
 within_gives (Awaits d v t) rights w c r n = within_gives t rights w c r n
 within_gives (Gives d v t) rights w c r n = given_other c d (Some v) (gives t) (λ e. not_given rights c d w.0 r n e) ∙ within_gives t rights w.1 c r n
 within_gives (Forks i x ks t) rights w c r n =
-    look_past c (gifts_through (moved true x.moves) (all_give ks)) (gives t)
+    look_past c (gifts_through (moved true x.moves) (all_give ks)) (if all_do_answer ks then gives t else [])
     (gifts_out c (moved true x.moves) (all_give ks) (λ q. clash (rights c) (moved_within rights x.moves c w.0 q) r))
-    ∙ within_gives t rights w.1.1.1 c r n
+    ∙ none_behind (all_do_answer ks) (gives t) c (within_gives t rights w.1.1.1 c r n)
 
 -- under the combinators
 

@@ -6,9 +6,10 @@ use Rattle.merc_value.specs.Value.{Value}
 use Rattle.merc_script.specs.declared.cells.Move.{Move}
 use Rattle.merc_core.specs.Rights.{has, without, moved, moved_to}
 use Rattle.merc_core.specs.WellFormed.{AreDistinct}
-use Rattle.merc_plan.specs.Branch.{NamedCell, Fork, Hold, BranchCourse, Over, Breaks, Steps, Finds, Awaits, Gives, Forks, BranchCourses, no_branches, more_branches, names, Gift, gift_at, gifts_through, gives, all_give, after, each, taken_back, first_alone, choose, negated}
+use Rattle.merc_plan.specs.Branch.{all_do_answer, NamedCell, Fork, Hold, BranchCourse, Over, Breaks, Steps, Finds, Awaits, Gives, Forks, BranchCourses, no_branches, more_branches, names, Gift, gift_at, gifts_through, gives, all_give, value_given, after, each, taken_back, first_alone, choose, negated}
 use Rattle.merc_plan.specs.Branches.{once_if}
 use Rattle.merc_plan.proofs.Flat.{Flat, Done, Halts, Tick, Answer, Answers, NotDone, Each, behind}
+use Rattle.merc_plan.proofs.Answering.{all_behind, all_told, none_behind}
 use Rattle.merc_plan.proofs.Judging.{flat, flats, AllAnswer, kid_count, uses, NamedFits, makes, signals_to, waits_to, MoveGoes, HoldsRight, SiteFits, OwnFits, Whole, anything, Keeps, AllKeep, Quiet}
 use Rattle.merc_plan.proofs.Sets.{clash, tell, same_number, only_one, front_or, in_left, in_right, in_either, minus_in, minus_keeps, minus_more, append_more, not_one, look_past, look_before, look_same, gifts_out, gifts_in, append_all, append_none, given_other, moved_move, moved_to_move, picked, each_true}
 
@@ -367,9 +368,10 @@ keeps_gives proper end rights (Awaits c v t) w g k = keeps_gives proper end righ
 keeps_gives proper end rights (Gives c v t) w g k =
     subst (λ z. First (λ env. (w' : List ℕ) × end w' z env) (flat t)) (append_all g (record { cell = c; value = Some v } ∷ []) (gives t)) (keeps_gives proper end rights t w (g ++ (record { cell = c; value = Some v } ∷ [])) k.1.1)
 keeps_gives proper end rights (Forks i x ks t) w g k =
-    first_flats (λ env. (w' : List ℕ) × end w' (g ++ (gifts_through (moved true x.moves) (all_give ks) ++ gives t)) env) ks (flat t) (λ a.
-    subst (λ z. First (λ env. (w' : List ℕ) × end w' z env) (flat t)) (append_all g (gifts_through (moved true x.moves) (all_give ks)) (gives t))
-    (keeps_gives proper end rights t (waits_past x w) (g ++ gifts_through (moved true x.moves) (all_give ks)) (k.1.1 a)))
+    first_flats (λ env. (w' : List ℕ) × end w' (g ++ gives (Forks i x ks t)) env) ks (flat t) (λ a.
+    subst (λ z. First (λ env. (w' : List ℕ) × end w' (g ++ (gifts_through (moved true x.moves) (all_give ks) ++ z)) env) (flat t)) (sym (all_behind ks (gives t) a))
+    (subst (λ z. First (λ env. (w' : List ℕ) × end w' z env) (flat t)) (append_all g (gifts_through (moved true x.moves) (all_give ks)) (gives t))
+    (keeps_gives proper end rights t (waits_past x w) (g ++ gifts_through (moved true x.moves) (all_give ks)) (k.1.1 a))))
 
 pub answers_behind : (t u : Flat Hold) → Answers (behind t u) → Answers t × Answers u
 answers_behind Done u h = absurd h
@@ -401,5 +403,71 @@ keeps_only proper end rights (Finds env t) w g k a c r = refl
 keeps_only proper end rights (Awaits d v t) w g k a c r = keeps_only proper end rights t (without (d ∷ []) w) g k.1 a c r
 keeps_only proper end rights (Gives d v t) w g k a c r = other_gift c d (Some v) (gives t) rights k.0.1 r (keeps_only proper end rights t w (g ++ (record { cell = d; value = Some v } ∷ [])) k.1.1 a c r)
 keeps_only proper end rights (Forks i x ks t) w g k a c r =
-    look_past c (gifts_through (moved true x.moves) (all_give ks)) (gives t) (gifts_out c (moved true x.moves) (all_give ks) (λ q. not_moved (kid_count ks) rights g w x.moves c k.0.moves r q))
-    ∙ keeps_only proper end rights t (waits_past x w) (g ++ gifts_through (moved true x.moves) (all_give ks)) (k.1.1 (answers_kids ks (flat t) a).0) (answers_kids ks (flat t) a).1 c r
+    look_past c (gifts_through (moved true x.moves) (all_give ks)) (if all_do_answer ks then gives t else [])
+    (gifts_out c (moved true x.moves) (all_give ks) (λ q. not_moved (kid_count ks) rights g w x.moves c k.0.moves r q))
+    ∙ none_behind (all_do_answer ks) (gives t) c
+    (keeps_only proper end rights t (waits_past x w) (g ++ gifts_through (moved true x.moves) (all_give ks)) (k.1.1 (answers_kids ks (flat t) a).0) (answers_kids ks (flat t) a).1 c r)
+
+-- what a course gives is proper, where it keeps to its rights
+
+gift_from : (c : ℕ) (v : Value) (gs hs : List Gift) → gift_at c (gs ++ hs) ≡ Some (Some v) → (gift_at c gs ≡ Some (Some v)) ⊎ (gift_at c hs ≡ Some (Some v))
+gift_from c v [] hs h = inr h
+gift_from c v (g ∷ gs) hs h = on (nat_eq c g.cell) h (λ k. gift_from c v gs hs k) where
+  on : (b : Bool) → (if b then Some g.value else gift_at c (gs ++ hs)) ≡ Some (Some v) → (gift_at c (gs ++ hs) ≡ Some (Some v) → (gift_at c gs ≡ Some (Some v)) ⊎ (gift_at c hs ≡ Some (Some v)))
+      → ((if b then Some g.value else gift_at c gs) ≡ Some (Some v)) ⊎ (gift_at c hs ≡ Some (Some v))
+  on true k rec = inl k
+  on false k rec = rec k
+
+gift_only : (c d : ℕ) (v w : Value) (gs : List Gift) → gift_at c (record { cell = d; value = Some w } ∷ gs) ≡ Some (Some v) → ((c ≡ d) × (w ≡ v)) ⊎ (gift_at c gs ≡ Some (Some v))
+gift_only c d v w gs h = on (nat_eq c d) refl h where
+  on : (b : Bool) → nat_eq c d ≡ b → (if b then Some (Some w) else gift_at c gs) ≡ Some (Some v) → ((c ≡ d) × (w ≡ v)) ⊎ (gift_at c gs ≡ Some (Some v))
+  on true e k = inl (same_number c d e, cc)
+  on false e k = inr k
+
+gift_through : (c : ℕ) (v : Value) (cs : List ℕ) (gs : List Gift) → gift_at c (gifts_through cs gs) ≡ Some (Some v) → (has c cs ≡ true) × (gift_at c gs ≡ Some (Some v))
+gift_through c v cs gs h = on (tell (has c cs)) where
+  valued : (o : Option (Option Value)) → Some (value_given o) ≡ Some (Some v) → o ≡ Some (Some v)
+  valued None e = absurd (cc)
+  valued (Some None) e = absurd (cc)
+  valued (Some (Some u)) e = cc
+
+  none_there : gift_at c (gifts_through cs gs) ≡ None → gift_at c (gifts_through cs gs) ≡ Some (Some v) → ⊥
+  none_there p q = cc
+
+  on : (has c cs ≡ true) ⊎ (has c cs ≡ false) → (has c cs ≡ true) × (gift_at c gs ≡ Some (Some v))
+  on (inl k) = (k, valued (gift_at c gs) (sym (gifts_in c cs gs k) ∙ h))
+  on (inr k) = absurd (none_there (gifts_out c cs gs (λ i. clash (has c cs) i k)) h)
+
+not_fresh : (x : Fork) (ms : List Move) (c : ℕ) → AllByRecursion (λ m. has m.cell (names x.cells) ≡ false) ms → has c (moved true ms) ≡ true → has c (names x.cells) ≡ false
+not_fresh x ms c f h = let m = moved_move (λ m. has m.cell (names x.cells) ≡ false) true c ms f h in ap (λ d. has d (names x.cells)) (sym m.1.1.0) ∙ m.1.0
+
+if_given : (b : Bool) (c : ℕ) (v : Value) (gs : List Gift) → gift_at c (if b then gs else []) ≡ Some (Some v) → (b ≡ true) × (gift_at c gs ≡ Some (Some v))
+if_given true c v gs h = (refl, h)
+if_given false c v gs h = absurd (cc)
+
+mutual
+  pub gives_proper : (proper : ℕ → Value → Type 0) (end : List ℕ → List Gift → Hold → Type 0) (rights : ℕ → Bool) (t : BranchCourse) (w : List ℕ) (g : List Gift) → Keeps proper end rights w g t → (c : ℕ) (v : Value)
+      → gift_at c (gives t) ≡ Some (Some v) → proper c v
+  gives_proper proper end rights Over w g k c v h = absurd k
+  gives_proper proper end rights (Breaks halt) w g k c v h = absurd (cc)
+  gives_proper proper end rights (Steps t) w g k c v h = gives_proper proper end rights t w g k c v h
+  gives_proper proper end rights (Finds hold t) w g k c v h = absurd (cc)
+  gives_proper proper end rights (Awaits d o t) w g k c v h = gives_proper proper end rights t (without (d ∷ []) w) g k.1 c v h
+  gives_proper proper end rights (Gives d u t) w g k c v h = elim (gift_only c d v u (gives t) h) as (λ _. proper c v) [
+    | inl e ↦ subst (λ z. proper c z) e.1 (subst (λ z. proper z u) (sym e.0) k.0.0)
+    | inr e ↦ gives_proper proper end rights t w (g ++ (record { cell = d; value = Some u } ∷ [])) k.1.1 c v e
+  ]
+  gives_proper proper end rights (Forks i x ks t) w g k c v h =
+      elim (gift_from c v (gifts_through (moved true x.moves) (all_give ks)) (if all_do_answer ks then gives t else []) h) as (λ _. proper c v) [
+        | inl e ↦ let q = gift_through c v (moved true x.moves) (all_give ks) e in
+            all_give_proper proper x 1 ks k.1.0 c v (not_fresh x x.moves c k.0.fresh q.0) q.1
+        | inr e ↦ let q = if_given (all_do_answer ks) c v (gives t) e in
+            gives_proper proper end rights t (waits_past x w) (g ++ gifts_through (moved true x.moves) (all_give ks)) (k.1.1 (all_told ks q.0)) c v q.1
+      ]
+
+  all_give_proper : (proper : ℕ → Value → Type 0) (x : Fork) (k : ℕ) (ks : BranchCourses) → AllKeep proper x k ks → (c : ℕ) (v : Value) → has c (names x.cells) ≡ false → gift_at c (all_give ks) ≡ Some (Some v) → proper c v
+  all_give_proper proper x k no_branches p c v n h = absurd (cc)
+  all_give_proper proper x k (more_branches t more) p c v n h = elim (gift_from c v (gives t) (all_give more) h) as (λ _. proper c v) [
+    | inl e ↦ gives_proper (λ d u. has d (names x.cells) ≡ false → proper d u) (Whole (λ d. has d (signals_to k x))) (λ d. has d (signals_to k x)) t (waits_to k x) [] p.0 c v e n
+    | inr e ↦ all_give_proper proper x (suc k) more p.1 c v n e
+  ]

@@ -9,8 +9,9 @@ use Rattle.merc_script.specs.declared.outcome.Outcome.TheVariants.{Ok as Fine, R
 use Rattle.merc_script.specs.Script.{Script, Ends, Children, ends}
 use Rattle.merc_script.specs.Joining.{joined}
 use Rattle.merc_core.specs.Rights.{has, without, moved, moved_to}
-use Rattle.merc_plan.specs.Branch.{NamedCell, Fork, BranchCourse, Over, Breaks, Steps, Finds, Awaits, Gives, Forks, BranchCourses, no_branches, more_branches, names, Gift, gift_at, gifts_through, value_given, gives, all_give}
+use Rattle.merc_plan.specs.Branch.{all_do_answer, NamedCell, Fork, BranchCourse, Over, Breaks, Steps, Finds, Awaits, Gives, Forks, BranchCourses, no_branches, more_branches, names, Gift, gift_at, gifts_through, value_given, gives, all_give}
 use Rattle.merc_plan.specs.BranchScript.{those_of, signalled, all_signalled, going, script, scripts}
+use Rattle.merc_plan.proofs.Answering.{all_behind}
 use Rattle.merc_plan.proofs.Judging.{AllAnswer, kid_count, makes, uses, signals_to, waits_to, NamedFits, MoveGoes, HoldsRight, SiteFits, Whole, anything, Keeps, AllKeep, Quiet, told_values}
 use Rattle.merc_plan.proofs.Holds.{waits_past, pending_past, kid_proper, names_of_made, own_fits}
 use Rattle.merc_plan.proofs.Gives.{Within, AllWithin, within_gives}
@@ -322,15 +323,15 @@ rest_of l s gn x ks t =
     going (joined l (ends (scripts l gn ks))) s (λ u. script false (l - u) (s + u) (gn ++ all_signalled (scripts l gn ks)) t)
 
 -- what moves is signalled by conjuncts alone
-moved_so : (proper : ℕ → Value → Type 0) (value : ℕ → Option Value) (x : Fork) (ks : BranchCourses) (t : BranchCourse) (rights : ℕ → Bool) (l s : ℕ) (gn w : List ℕ) (g : List Gift) → SiteFits (kid_count ks) rights g w x
+moved_so : (i : ℕ) (proper : ℕ → Value → Type 0) (value : ℕ → Option Value) (x : Fork) (ks : BranchCourses) (t : BranchCourse) (rights : ℕ → Bool) (l s : ℕ) (gn w : List ℕ) (g : List Gift) → SiteFits (kid_count ks) rights g w x
     → AllKeep proper x 1 ks → (AllAnswer ks → Keeps proper (Whole rights) rights (waits_past x w) (g ++ gifts_through (moved true x.moves) (all_give ks)) t)
-    → SignalsSo value rights g (those_of (all_signalled (scripts l gn ks)) (moved true x.moves) ++ signalled (rest_of l s gn x ks t)) (gifts_through (moved true x.moves) (all_give ks) ++ gives t)
+    → SignalsSo value rights g (those_of (all_signalled (scripts l gn ks)) (moved true x.moves) ++ signalled (rest_of l s gn x ks t)) (gives (Forks i x ks t))
     → (j c : ℕ) → has c (moved_to j true x.moves) ≡ true → value c ≡ value_of (all_signalled (scripts l gn ks)) (all_give ks) c
-moved_so proper value x ks t rights l s gn w g f p k so j c h =
+moved_so i proper value x ks t rights l s gn w g f p k so j c h =
     let m = moved_of_to j true c x.moves h in
     let r = moved_right (kid_count ks) rights g w c x.moves f.moves m in
     so c r.0 r.1
-    ∙ value_moved c (all_signalled (scripts l gn ks)) (moved true x.moves) (signalled (rest_of l s gn x ks t)) (all_give ks) (gives t) m
+    ∙ value_moved c (all_signalled (scripts l gn ks)) (moved true x.moves) (signalled (rest_of l s gn x ks t)) (all_give ks) (if all_do_answer ks then gives t else []) m
     (absent c (signalled (rest_of l s gn x ks t)) (λ i. not_behind m r.1 i))
   where
     not_behind : has c (moved true x.moves) ≡ true → gift_at c g ≡ None → has c (signalled (rest_of l s gn x ks t)) ≡ true → ⊥
@@ -341,19 +342,20 @@ moved_so proper value x ks t rights l s gn w g f p k so j c h =
         some_now (value_given (gift_at c (all_give ks))) (gift_at c (g ++ gifts_through (moved true x.moves) (all_give ks)))
         (look_past c g (gifts_through (moved true x.moves) (all_give ks)) n ∙ gifts_in c (moved true x.moves) (all_give ks) m) y.1
 
-signals_behind : (value : ℕ → Option Value) (x : Fork) (ks : BranchCourses) (t : BranchCourse) (rights : ℕ → Bool) (l s n : ℕ) (gn w : List ℕ) (g : List Gift) → SiteFits (kid_count ks) rights g w x
-    → joined l (ends (scripts l (without (names x.cells) gn) ks)) ≡ Fine n
+signals_behind : (i : ℕ) (value : ℕ → Option Value) (x : Fork) (ks : BranchCourses) (t : BranchCourse) (rights : ℕ → Bool) (l s n : ℕ) (gn w : List ℕ) (g : List Gift) → SiteFits (kid_count ks) rights g w x
+    → AllAnswer ks → joined l (ends (scripts l (without (names x.cells) gn) ks)) ≡ Fine n
     → SignalsSo value rights g (those_of (all_signalled (scripts l (without (names x.cells) gn) ks)) (moved true x.moves) ++ signalled (rest_of l s (without (names x.cells) gn) x ks t))
-    (gifts_through (moved true x.moves) (all_give ks) ++ gives t)
+    (gives (Forks i x ks t))
     → SignalsSo (told_values value (told x ks (scripts l (without (names x.cells) gn) ks))) rights (g ++ gifts_through (moved true x.moves) (all_give ks))
     (signalled (script false (l - n) (s + n) (without (names x.cells) gn ++ all_signalled (scripts l (without (names x.cells) gn) ks)) t)) (gives t)
-signals_behind value x ks t rights l s n gn w g f e so c r m =
+signals_behind i value x ks t rights l s n gn w g f answer e so c r m =
     outer_value value x ks sk c (f.apart c r)
     ∙ (so c r (look_none c g (gifts_through ms (all_give ks)) m)
+    ∙ (ap (λ z. value_of (those_of (all_signalled sk) ms ++ signalled (going (joined l (ends sk)) s next)) (gifts_through ms (all_give ks) ++ z) c) (all_behind ks (gives t) answer)
     ∙ (ap (λ o. value_of (those_of (all_signalled sk) ms ++ signalled (going o s next)) (gifts_through ms (all_give ks) ++ gives t) c) e
     ∙ value_at_rest (those_of (all_signalled sk) ms) (signalled (next n)) (gifts_through ms (all_give ks)) (gives t) c
     (absent c (those_of (all_signalled sk) ms) (λ h. clash (has c ms) (common_in c ms (all_signalled sk) h).0 not_moved))
-    (gifts_out c ms (all_give ks) (λ h. clash (has c ms) h not_moved))))
+    (gifts_out c ms (all_give ks) (λ h. clash (has c ms) h not_moved)))))
   where
     ms : List ℕ
     ms = moved true x.moves
@@ -404,13 +406,13 @@ mutual
       let sk = scripts l g' ks in
       let anew = told_values value (told x ks sk) in (
         all_valued proper x 1 ks anew known l g' [] (kid_count ks) rights w g (omega arith) k.0 a k.1.0 wi.1.0 wi.1.1.0 te.1.0
-            (starts_so (kid_count ks) rights g w value known x ks l gn k.0 ws (λ j c h. moved_so proper value x ks t rights l s g' w g k.0 k.1.0 k.1.1 ss j c h)),
+            (starts_so (kid_count ks) rights g w value known x ks l gn k.0 ws (λ j c h. moved_so i proper value x ks t rights l s g' w g k.0 k.1.0 k.1.1 ss j c h)),
         fine_from (joined l (ends sk)) (λ n. Valued anew false (l - n) (g' ++ all_signalled sk) t)
             (λ n e. valued proper t rights anew (known_anew known x (all_give ks)) next (l - n) (s + n) (g' ++ all_signalled sk) (waits_past x w)
             (g ++ gifts_through (moved true x.moves) (all_give ks)) (k.1.1 (fine_kids_answer proper x ks l n g' k.1.0 e)) wi.1.1.1 te.1.1
             (apart_behind (kid_count ks) rights g w (without (moved false x.moves) w) x k.0 a (λ c h. minus_in c (moved false x.moves) w h))
             (waits_behind proper (kid_count ks) rights g w (without (moved false x.moves) w) value known x ks l gn k.0 a k.1.0 wi.1.0 wi.1.1.0 ws (λ c h. minus_in c (moved false x.moves) w h))
-            (signals_behind value x ks t rights l s n gn w g k.0 e ss)),
+            (signals_behind i value x ks t rights l s n gn w g k.0 (fine_kids_answer proper x ks l n g' k.1.0 e) e ss)),
       )
 
   pub all_valued : (proper : ℕ → Value → Type 0) (x : Fork) (k : ℕ) (ks : BranchCourses) (value known : ℕ → Option Value) (l : ℕ) (gn : List ℕ) (given : List Gift) (n : ℕ) (rights : ℕ → Bool) (w : List ℕ)

@@ -1,3 +1,4 @@
+pub mod Answering
 pub mod Flat
 pub mod Judging
 pub mod Likes

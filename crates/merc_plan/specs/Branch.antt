@@ -1,6 +1,6 @@
 -- The course of a branch, in which what others give it is put in: each wait has its cell and the value that comes through it, each signal its cell and value,
 -- and each fork its conjuncts' courses.
-use Rattle.std.specs.Prelude.{ℕ, suc, ◌==◌, Bool, true, false, not, List, [], ◌∷◌, ◌++◌, map, Option, Some, None, if◌then◌else◌}
+use Rattle.std.specs.Prelude.{ℕ, suc, ◌==◌, ◌&&◌, Bool, true, false, not, List, [], ◌∷◌, ◌++◌, map, Option, Some, None, if◌then◌else◌}
 use Rattle.std.specs.List.{filter}
 use Rattle.merc_value.specs.Value.{Value}
 use Rattle.merc_meaning.specs.Trace.{Env}
@@ -152,7 +152,23 @@ value_given (Some value) = value
 abbrev pub gifts_through : List ℕ → List Gift → List Gift
 gifts_through cells gifts = map (λ cell. record { cell = cell; value = value_given (gift_at cell gifts) }) cells
 
--- What a course gives up to its first answer, through cells that the branch holds: of a fork it is what its conjuncts give through those that moved in.
+-- whether a course answers, with the conjuncts of its forks before its first answer
+abbrev mutual
+  pub does_answer : BranchCourse → Bool
+  does_answer Over = false
+  does_answer (Breaks halt) = false
+  does_answer (Steps rest) = does_answer rest
+  does_answer (Finds hold rest) = true
+  does_answer (Awaits cell value rest) = does_answer rest
+  does_answer (Gives cell value rest) = does_answer rest
+  does_answer (Forks site fork branches rest) = all_do_answer branches && does_answer rest
+
+  pub all_do_answer : BranchCourses → Bool
+  all_do_answer no_branches = true
+  all_do_answer (more_branches first rest) = does_answer first && all_do_answer rest
+
+-- What a course gives up to its first answer, through cells that the branch holds: of a fork it is what its conjuncts give through those that moved in, and
+-- where one of these does not answer nothing is given behind it.
 abbrev mutual
   pub gives : BranchCourse → List Gift
   gives Over = []
@@ -161,7 +177,8 @@ abbrev mutual
   gives (Finds hold rest) = []
   gives (Awaits cell value rest) = gives rest
   gives (Gives cell value rest) = record { cell = cell; value = Some value } ∷ gives rest
-  gives (Forks site fork branches rest) = gifts_through (moved true fork.moves) (all_give branches) ++ gives rest
+  gives (Forks site fork branches rest) =
+      gifts_through (moved true fork.moves) (all_give branches) ++ (if all_do_answer branches then gives rest else [])
 
   pub all_give : BranchCourses → List Gift
   all_give no_branches = []

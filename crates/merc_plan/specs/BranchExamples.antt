@@ -2,7 +2,7 @@
 use Rattle.std.specs.Prelude.{◌≡◌, ℕ, pos, true, false, List, [], ◌∷◌, Option, Some, None, refl}
 use Rattle.merc_value.specs.Value.{Value, Int}
 use Rattle.merc_script.specs.declared.cells.Move.{Move}
-use Rattle.merc_plan.specs.Branch.{Hold, NamedCell, Fork, Gift, BranchCourse, BranchCourses, Over, Breaks, Steps, Finds, Awaits, Gives, Forks, no_branches, more_branches, Raised, Starving, after, each, taken_back, first_alone, choose, negated, closed, names, gift_at, value_given, gifts_through, gives}
+use Rattle.merc_plan.specs.Branch.{Hold, NamedCell, Fork, Gift, BranchCourse, BranchCourses, Over, Breaks, Steps, Finds, Awaits, Gives, Forks, no_branches, more_branches, Raised, Starving, after, each, taken_back, first_alone, choose, negated, closed, names, gift_at, value_given, gifts_through, does_answer, gives}
 
 abbrev one : Value
 one = Int (pos 1)
@@ -105,6 +105,19 @@ gives-example = refl
 
 gives-not : gives (Finds (has one) (Gives 6 one Over)) ≡ record { cell = 6; value = Some one } ∷ [] → ⊥
 gives-not behind_an_answer = cc
+
+-- behind a conjunct that does not answer nothing is given
+abbrev halted : BranchCourse
+halted = Forks 0 fork (more_branches (Gives 3 two (Breaks (Raised 7))) no_branches) (Gives 4 one (Finds (has one) Over))
+
+gives-halted : gives halted ≡ record { cell = 3; value = Some two } ∷ []
+gives-halted = refl
+
+does_answer-example : does_answer forks ≡ true
+does_answer-example = refl
+
+does_answer-not : does_answer halted ≡ true → ⊥
+does_answer-not answers = cc
 
 gift_at-example : gift_at 4 (gives forks) ≡ Some (Some one)
 gift_at-example = refl

@@ -38,7 +38,7 @@ use Rattle.merc_plan.proofs.Likes.{like_each, like_once, like_more, like_answers
 use Rattle.merc_plan.proofs.Flats.{flat_each, sure_each, flat_once, sure_once}
 use Rattle.merc_plan.proofs.Holds.{keeps_each, keeps_once, keeps_end}
 use Rattle.merc_script_laws.specs.Parallel.{ArmHas}
-use Rattle.merc_script_laws.proofs.Bonds.{Set, Here, Owed, signs, AllUsed, Fit, Fine, After, Match, Names, Moves, Kept, Ends, Ready, here_behind, Used, Rightful, Sound, Proper, Goes}
+use Rattle.merc_script_laws.proofs.Bonds.{Counted, Set, Here, Owed, signs, AllUsed, Fit, Fine, After, Match, Names, Moves, Kept, Ends, Ready, here_behind, Used, Rightful, Sound, Proper, Goes}
 use Rattle.merc_script_laws.proofs.RightLists.{not_not, those_in, in_those, not_those, those_within, those_once, not_for, for_those}
 use Rattle.merc_script_laws.proofs.Steps.{Waits, IsIn, joins_left, joins_right, match_waited, moves_closed}
 use Rattle.merc_script_laws.proofs.Holding.{waitable}
@@ -151,7 +151,7 @@ module _ (uses later : ℕ → Bool) (b : Bound) (here : Set) (w s : List Right)
 -- behind signals that are fewer the rights to signal stay where there are none
 more_signals : (here : Set) (w s s1 : List Right) (later : ℕ → Bool) (outs : List ℕ) (hold hold1 : Hold) → IsIn s1 s → Moves here w s1 later outs hold hold1 → Moves here w s later outs hold hold1
 more_signals here w s s1 later outs hold hold1 i m =
-    record { keep = m.keep; fresh = m.fresh; got = m.got; rest = m.rest; old = m.old; next = m.next; names = m.names; signed = m.signed; still = λ k. m.still (λ x. not_for s1 x (λ h. clash (i x h) (k x))) }
+    record { keep = m.keep; fresh = m.fresh; got = m.got; rest = m.rest; old = m.old; next = m.next; names = m.names; signed = m.signed; still = λ k. m.still (λ x. not_for s1 x (λ h. clash (i x h) (k x))); unsigned = λ x k. m.unsigned x (not_for s1 x (λ h. clash (i x h) k)) }
 
 -- Given are the module, the types of the variables, and what type variables stand for; the program of the graded trees, whose calls are lawful; and the plan and
 -- the program of the split trees, with the courses of its calls.
@@ -194,13 +194,13 @@ module _ (known : Module) (types i : Instance) (declared : AreGoodTypes known.ty
     ready_in x h k = elim (r x h k) as (λ _. here x ⊎ (are_for (used_in n w) x ≡ true)) [ inl p ↦ inl p | inr p ↦ inr (in_those (in_node n) w x p h) ]
 
     closing : (e e1 : Hold) → First e → Waits Behind (passed_by later n w) e e1 → Moves here w s later outs hold e1
-    closing e e1 m p = moves_closed (in_node n) later here w s (bound_in n s) outs hold e e1 (λ k x. those_within (among outs) s x (k x)) m p.moves
+    closing e e1 m p = moves_closed (in_node n) later here w s (bound_in n s) outs hold e e1 (λ x k. those_within (among outs) s x k) m p.moves
 
     -- a goal with waits at its end goes on with them, once where it is answered once
     with_tail : (P : BranchCourse → Type 0) (r : Right) (v : List Right) → P (c_once once (c_each (λ e. tail (r ∷ v) e) (part hold))) → P (ended (r ∷ v) hold)
     with_tail P r v h = subst (λ (goals : List Node). P (c_once once (c_each (λ e. in_turn plan split course span goals e) (part hold)))) (append-nil (map (wait_at span) (r ∷ v))) h
 
-    module _ (full : Env) (there : Fits known types i out b (in_node n) seen full) (t : Match w hold full) where
+    module _ (full : Env) (there : Fits known types i out b (in_node n) seen full) (t : Match w hold full) (counted : Counted s hold) where
       abbrev trace : Flat Env
       trace = events (node_trace program calls n full)
 
@@ -214,6 +214,7 @@ module _ (known : Module) (types i : Instance) (declared : AreGoodTypes known.ty
       along_inner =
           goes.along later (used_in n w) (bound_in n s) out b seen here hold full fit (λ x h. (those_in (in_node n) w x h).1) (λ x h. (those_in (among outs) s x h).1) sound there fit_in
           (match_less w (used_in n w) hold full (λ x h. (those_in (in_node n) w x h).0) t) ready_in names
+          (λ x h. let k = those_in (among outs) s x h in ap length (for_those (among outs) x s k.1) ∙ counted x k.0)
 
       waited : (v : List Right) → v ≡ passed_by later n w → (e : Hold) (q : Env) → R e q → Waited plan split course span Behind v e []
       waited v is e q k =
@@ -290,7 +291,7 @@ module _ (known : Module) (types i : Instance) (declared : AreGoodTypes known.ty
       used_end : (held1 : List ℕ) (g1 : List Gift) (e : Hold) → UsedInside held1 g1 e → (held2 : List ℕ) (e1 : Hold) → Waits Behind (passed_by later n w) e e1 → StillWaits plan split course span (passed_by later n w) e held1 held2
           → UsedEnd held2 g1 e1
       used_end held1 g1 e u held2 e1 p still = record {
-        moves = moves_closed (in_node n) later here w (bound_in n s) (bound_in n s) outs hold e e1 (λ k. k) u.moves p.moves;
+        moves = moves_closed (in_node n) later here w (bound_in n s) (bound_in n s) outs hold e e1 (λ x k. k) u.moves p.moves;
         kept = λ c l h no. still c (u.kept c l h (λ x o j k. no x o (those_in (in_node n) w x j).0 k)) (λ x o j k. no x o (at_end (in_node n) later b here w s outs hold e x j).0 (u.moves.old x c o k));
         gave = λ x c h k. let v = u.gave x c h k in (v.0, (v.1.0, p.moves.keep x v.0 (inr (inl (those_in (among outs) s x h).1)) v.1.1));
         left = u.left;

@@ -1,5 +1,5 @@
 -- Waits before a goal, and signals behind it.
-use Rattle.std.proofs.Common.{◌≡◌, ◌⊎◌, inl, inr, ℕ, suc, ◌+◌, Bool, true, false, ◌==◌, nat_eq, List, [], ◌∷◌, ◌++◌, length, map, Option, Some, None, refl, ap, sym, subst, ◌∙◌}
+use Rattle.std.proofs.Common.{◌≡◌, ◌⊎◌, inl, inr, ℕ, suc, Bool, true, false, ◌==◌, nat_eq, List, [], ◌∷◌, ◌++◌, length, map, Option, Some, None, refl, ap, sym, subst, ◌∙◌}
 use Rattle.merc_base.specs.declared.place.Span.{Span}
 use Rattle.merc_graded_tree.specs.declared.basic.Procedure.{Procedure}
 use Rattle.merc_graded_tree.specs.Nodes.{Node, nodes_of}
@@ -76,6 +76,7 @@ waits_none here hold = record {
     names = λ n. n;
     signed = λ x c h. h;
     still = λ k. refl;
+    unsigned = λ x h. refl;
   };
   other = λ x h. refl;
   gone = λ x c o h e. clash h refl;
@@ -176,25 +177,6 @@ module _ (plan : Plan) (program : Program) (call : Procedure → Hold → Branch
   -- the variables that are signalled have values
   abbrev pub AreHere : List Right → Hold → Type 0
   AreHere s hold = (x : ℕ) → are_for s x ≡ true → (v : Value) × Here hold x v
-
-  pub record Signalled (s : List Right) (hold : Hold) : Type 0 where
-    pub hold1 : Hold
-    pub sends : Sends hold hold1
-    pub is_flat : flat (sending s hold) ≡ Answer hold1 Done
-    pub still : ((x : ℕ) → are_for s x ≡ false) → hold1.signals ≡ hold.signals
-
-  pub signals_flat : (s : List Right) (hold : Hold) → AreHere s hold → Signalled s hold
-  signals_flat [] hold a = record { hold1 = hold; sends = sends_none hold; is_flat = refl; still = λ k. refl }
-  signals_flat (r ∷ s) hold a =
-      let v = a r.variable (right_first r s) in
-      let one = sent hold (used_cell r.variable hold) in
-      let next = signals_flat s one (λ x h. a x (right_rest r s x h)) in
-      record {
-        hold1 = next.hold1;
-        sends = sends_both hold one next.hold1 (sent_sends hold (used_cell r.variable hold)) next.sends;
-        is_flat = ap flat (step_sent (λ inner. sending s inner) hold r.variable v.0 v.1) ∙ next.is_flat;
-        still = λ k. clash (right_first r s) (k r.variable);
-      }
 
   signal_sure : (f : Hold → BranchCourse) (hold : Hold) (c : ℕ) (o : Option Value) → (Sure (f (sent hold c))) → Sure (each f (first_alone (signalled hold c o)))
   signal_sure f hold c None s = tt
@@ -298,6 +280,28 @@ module _ (plan : Plan) (program : Program) (call : Procedure → Hold → Branch
           | inl q ↦ p.unsigned x i ∙ subst (λ y. are_for s y ≡ false → signs y one ≡ []) q none_left i
           | inr q ↦ clash q i
         ]
+
+  -- what signals of these variables do
+  pub record Signalled (s : List Right) (hold : Hold) : Type 0 where
+    pub hold1 : Hold
+    pub sends : Sends hold hold1
+    pub is_flat : flat (sending s hold) ≡ Answer hold1 Done
+    pub still : ((x : ℕ) → are_for s x ≡ false) → hold1.signals ≡ hold.signals
+    pub unsigned : (x : ℕ) → are_for s x ≡ false → signs x hold1 ≡ signs x hold
+
+  pub signals_flat : (s : List Right) (hold : Hold) → Names hold → Counts s hold → AreHere s hold → Signalled s hold
+  signals_flat [] hold names counts a = record { hold1 = hold; sends = sends_none hold; is_flat = refl; still = λ k. refl; unsigned = λ x h. refl }
+  signals_flat (r ∷ s) hold names counts a =
+      let v = a r.variable (right_first r s) in
+      let one = sent hold (used_cell r.variable hold) in
+      let next = signals_flat s one ((sent_sends hold (used_cell r.variable hold)).names names) (counts_rest r s hold names counts) (λ x h. a x (right_rest r s x h)) in
+      record {
+        hold1 = next.hold1;
+        sends = sends_both hold one next.hold1 (sent_sends hold (used_cell r.variable hold)) next.sends;
+        is_flat = ap flat (step_sent (λ inner. sending s inner) hold r.variable v.0 v.1) ∙ next.is_flat;
+        still = λ k. clash (right_first r s) (k r.variable);
+        unsigned = λ x h. let o = right_other r s x h in next.unsigned x o.1 ∙ sent_other x (used_cell r.variable hold) hold (not_other r s hold names counts x o.0);
+      }
 
   -- signals through cells for which the branch has the right
   pub signals_keeps : (proper : ℕ → Value → Type 0) (end : List ℕ → List Gift → Hold → Type 0) (rights : ℕ → Bool) (held : List ℕ) (s : List Right) (hold : Hold) (g : List Gift) → Names hold → AreHere s hold → Counts s hold

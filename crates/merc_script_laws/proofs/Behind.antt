@@ -307,9 +307,6 @@ module _ (outputs : List ℕ) (w s : List Right) (goals : Nodes) (hold : Hold) (
       pub others_behind : (x : ℕ) → among outputs x ≡ false → value_at hold2.env x ≡ value_at hold.env x
       others_behind x h = p.other x (not_for (map (right_to 0) outputs) x (λ k. clash (rights_among outputs x k) h))
 
-      pub signals_behind : hold2.signals ≡ signals_kept all_moves hold.signals
-      signals_behind = p.signals
-
       pub old_behind : (x c : ℕ) (o : Option Value) → Owed hold2 x c o → Owed hold x c o × (child_for false x all_moves ≡ None)
       old_behind x c o e = elim (owed_cases x c o (p.moves.old x c o e)) as (λ _. Owed hold x c o × (child_for false x all_moves ≡ None)) [
         | inl q ↦ absurd (p.gone x c o (among_rights outputs x q.output) e)
@@ -381,6 +378,7 @@ module _ (outputs : List ℕ) (w s : List Right) (goals : Nodes) (hold : Hold) (
         next = p.moves.next;
         names = λ n. names_behind;
         signed = signed_behind;
+        unsigned = unsigned_behind;
         still = λ k. p.signals ∙ filter_all signal_stays hold.signals (λ right i. none_stays (child_for true right.variable all_moves) (no_signal outputs w s goals right.variable (k right.variable)));
       }
 

@@ -60,6 +60,10 @@ signs x hold = map (λ right. right.cell) (filter (λ right. right.variable == x
 abbrev pub rights_for : ℕ → List Right → List Right
 rights_for x rights = filter (λ right. right.variable == x) rights
 
+-- as many rights to signal each variable as it is signalled
+abbrev pub Counted : List Right → Hold → Type 0
+Counted s hold = (x : ℕ) → are_for s x ≡ true → length (rights_for x s) ≡ length (signs x hold)
+
 abbrev pub Within : List Right → List ℕ → Type 0
 Within s outs = (x : ℕ) → are_for s x ≡ true → among outs x ≡ true
 
@@ -124,6 +128,7 @@ pub record Moves (here : Set) (w s : List Right) (later : ℕ → Bool) (outs : 
   pub names : Names hold → Names hold'
   pub signed : (x c : ℕ) → has c (signs x hold') ≡ true → has c (signs x hold) ≡ true
   pub still : ((x : ℕ) → are_for s x ≡ false) → hold'.signals ≡ hold.signals
+  pub unsigned : (x : ℕ) → are_for s x ≡ false → signs x hold' ≡ signs x hold
 
 abbrev pub Kept : Env → Env → Type 0
 Kept full full' = (x : ℕ) (v : Value) → value_at full x ≡ Some v → value_at full' x ≡ Some v
@@ -191,7 +196,7 @@ module _ (known : Module) (types i : Instance) where
     -- first answer, and where there are no rights.
     pub record Goes (n : Node) (make : (ℕ → Bool) → List Right → List Right → Node) (fits : (ℕ → Bool) → List Right → List Right → Type 0) : Type 1 where
       pub along : (later : ℕ → Bool) (w s : List Right) (out : Variables) (b : Bound) (seen : Known) (here : Set) (hold : Hold) (full : Env) → fits later w s → AllUsed w (in_node n) → Within s (outputs_of n)
-          → Sound out b seen n → Fits known types i out b (in_node n) seen full → Fit b here w hold → Match w hold full → Ready here w b (in_node n) → Names hold
+          → Sound out b seen n → Fits known types i out b (in_node n) seen full → Fit b here w hold → Match w hold full → Ready here w b (in_node n) → Names hold → Counted s hold
           → Like (Ends full here w s later (outputs_of n) hold) (flat (node_branch plan split course (make later w s) hold)) (events (node_trace program calls n full))
           × Sure (node_branch plan split course (make later w s) hold)
       pub uses : (later : ℕ → Bool) (w s : List Right) (out : Variables) (b : Bound) (seen : Known) (here : Set) (hold : Hold) (rights : ℕ → Bool) (held : List ℕ) (g : List Gift)

@@ -1,17 +1,16 @@
 -- The cells of a fork by name, and the rights that move into its conjuncts.
-use Rattle.std.proofs.Common.{◌≡◌, ◌⊎◌, inl, inr, ℕ, zero, suc, ◌+◌, ◌≤◌, ◌<◌, Bool, true, false, not, ◌==◌, ◌&&◌, if◌then◌else◌, nat_eq, List, [], ◌∷◌, ◌++◌, length, map, filter, flat_map, Option, Some, None, refl, ap, sym, subst, ◌∙◌, arith}
-use Rattle.merc_value.specs.Value.{Value}
+use Rattle.std.proofs.Common.{◌≡◌, ◌⊎◌, inl, inr, ℕ, suc, ◌+◌, ◌≤◌, ◌<◌, Bool, true, false, not, ◌==◌, ◌&&◌, if◌then◌else◌, nat_eq, List, [], ◌∷◌, ◌++◌, length, map, filter, flat_map, Option, Some, None, refl, ap, sym, subst, ◌∙◌, arith}
 use Rattle.merc_script.specs.declared.cells.Move.{Move}
 use Rattle.merc_core.specs.Rights.{has, cells_moved, is_kind, moved, moved_to}
 use Rattle.merc_core.specs.WellFormed.{AreDistinct}
 use Rattle.merc_par_split.specs.declared.sites.CellInfo.{CellInfo}
 use Rattle.merc_par_split.specs.declared.sites.Moved.{Moved}
 use Rattle.merc_par_split.specs.declared.sites.SiteInfo.{SiteInfo}
-use Rattle.merc_plan.specs.Branch.{HeldWait, HeldSignal, Hold, NamedCell, Fork, names, Gift, gift_at, value_given}
-use Rattle.merc_plan.specs.Hold.{wait_for, named, own_waits, own_signals, child_for, moves_if, moves_from, goes_to, waits_into, signals_into, stays, waits_kept, signals_kept, fork_of, conjunct_hold, hold_behind}
+use Rattle.merc_plan.specs.Branch.{HeldWait, HeldSignal, Hold, NamedCell, names, Gift, gift_at, value_given}
+use Rattle.merc_plan.specs.Hold.{wait_for, named, own_waits, own_signals, child_for, moves_if, moves_from, goes_to, waits_into, signals_into, stays, fork_of, conjunct_hold}
 use Rattle.merc_plan.proofs.Judging.{makes, uses, signals_to, waits_to}
-use Rattle.merc_plan.proofs.Sets.{clash, tell, absent, same_number, is_same, front_or, and_both, both_and, not_true, true_not}
-use Rattle.merc_script_laws.proofs.Members.{Member, member_left, member_right, member_either, passing, passes, made_from, is_made, numbered, is_numbered, number_in, distinct_same, map_both, map_twice, filter_both, length_map}
+use Rattle.merc_plan.proofs.Sets.{clash, absent, same_number, is_same, and_both, both_and, not_true, true_not}
+use Rattle.merc_script_laws.proofs.Members.{Member, numbered, number_in, map_both, map_twice, filter_both}
 
 -- Cells by name.
 
@@ -71,23 +70,19 @@ name_of next (first ∷ infos) info (inr h) =
 
 pub names_distinct : (next : ℕ) (infos : List CellInfo) → AreDistinct (names (named next infos))
 names_distinct next [] = tt
-names_distinct next (info ∷ infos) = (absent next (names (named (suc next) infos)) (λ h.
-  let r = numbered (λ (z : NamedCell). z.cell) next (named (suc next) infos) h in
-  let l = (of_info (suc next) infos r.0 r.1.0).low in
-  let e = r.1.1 in
-  absurd (omega (arith, e, l))), names_distinct (suc next) infos)
+names_distinct next (info ∷ infos) = (
+  absent next (names (named (suc next) infos)) (λ h.
+      let r = numbered (λ (z : NamedCell). z.cell) next (named (suc next) infos) h in
+      let l = (of_info (suc next) infos r.0 r.1.0).low in
+      let e = r.1.1 in
+      absurd (omega (arith, e, l))),
+  names_distinct (suc next) infos,
+)
 
 pub name_low : (next : ℕ) (infos : List CellInfo) (c : ℕ) → has c (names (named next infos)) ≡ true → next ≤ c
 name_low next infos c h =
     let r = numbered (λ (z : NamedCell). z.cell) c (named next infos) h in
     let l = (of_info next infos r.0 r.1.0).low in
-    let e = r.1.1 in
-    omega (arith, e, l)
-
-pub name_high : (next : ℕ) (infos : List CellInfo) (c : ℕ) → has c (names (named next infos)) ≡ true → c < next + length infos
-name_high next infos c h =
-    let r = numbered (λ (z : NamedCell). z.cell) c (named next infos) h in
-    let l = (of_info next infos r.0 r.1.0).high in
     let e = r.1.1 in
     omega (arith, e, l)
 
@@ -98,7 +93,7 @@ name_apart next infos c l = absent c (names (named next infos)) (λ h. let k = n
 same_case : (f : ℕ → ℕ → ℕ → Bool) (b : Bool) (next : ℕ) (info : CellInfo) (infos : List CellInfo)
     → map (λ (z : NamedCell). z.variable) (filter (λ (z : NamedCell). f z.variable z.producer z.consumer) (named (suc next) infos)) ≡ map (λ (z : CellInfo). z.variable) (filter (λ (z : CellInfo). f z.variable z.producer z.consumer) infos)
     → map (λ (z : NamedCell). z.variable) (if b then record { cell = next; variable = info.variable; producer = info.producer; consumer = info.consumer } ∷ filter (λ (z : NamedCell). f z.variable z.producer z.consumer) (named (suc next) infos) else filter (λ (z : NamedCell). f z.variable z.producer z.consumer) (named (suc next) infos))
-      ≡ map (λ (z : CellInfo). z.variable) (if b then info ∷ filter (λ (z : CellInfo). f z.variable z.producer z.consumer) infos else filter (λ (z : CellInfo). f z.variable z.producer z.consumer) infos)
+    ≡ map (λ (z : CellInfo). z.variable) (if b then info ∷ filter (λ (z : CellInfo). f z.variable z.producer z.consumer) infos else filter (λ (z : CellInfo). f z.variable z.producer z.consumer) infos)
 same_case f true next info infos h = ap (λ l. info.variable ∷ l) h
 same_case f false next info infos h = h
 

@@ -1,5 +1,5 @@
 -- If-then-else beside other branches: it waits for what the condition uses, and each part for what it uses.
-use Rattle.std.proofs.Common.{◌≡◌, ◌⊎◌, inl, inr, ℕ, ◌<◌, Bool, true, false, ◌||◌, ◌&&◌, List, [], ◌++◌, Option, Some, refl, sym, subst, ◌∙◌}
+use Rattle.std.proofs.Common.{◌≡◌, ◌⊎◌, inl, inr, ℕ, ◌<◌, Bool, true, false, ◌||◌, ◌&&◌, List, [], ◌++◌, Option, Some, refl, sym, subst, ◌∙◌, length, ap}
 use Rattle.std.specs.List.{AllByRecursion}
 use Rattle.merc_base.specs.Category.{can_fail_of, most_of}
 use Rattle.merc_base.specs.declared.category.Category.{Category}
@@ -46,7 +46,7 @@ use Rattle.merc_plan.proofs.Flats.{flat_choose, sure_choose}
 use Rattle.merc_plan.proofs.Events.{events_choose}
 use Rattle.merc_plan.proofs.Holds.{keeps_once, keeps_end, quiet_choose, quiet_once, StillHeld, quiet_turns}
 use Rattle.merc_script_laws.specs.Parallel.{ArmHas}
-use Rattle.merc_script_laws.proofs.Bonds.{Set, Here, signs, AllUsed, Fit, Fine, After, Match, Names, Ends, Ready, here_or, Used, Rightful, Sound, Proper, Goes}
+use Rattle.merc_script_laws.proofs.Bonds.{Counted, Set, Here, signs, AllUsed, Fit, Fine, After, Match, Names, Ends, Ready, here_or, Used, Rightful, Sound, Proper, Goes}
 use Rattle.merc_script_laws.proofs.RightLists.{not_not, those_in, not_those, those_once}
 use Rattle.merc_script_laws.proofs.Steps.{unused, Waits, joins_left, fit_waited, match_waited, ready_waited, fine_first, fine_waited}
 use Rattle.merc_script_laws.proofs.Seen.{occurring, behind_other}
@@ -193,7 +193,7 @@ module _ (known : Module) (types i : Instance) (declared : AreGoodTypes known.ty
         ready_e : Ready here w b (in_node e)
         ready_e = ready_less here w b occurs (in_node e) in_else r
 
-        module _ (full : Env) (there : Fits known types i out b occurs seen full) (m : Match w hold full) where
+        module _ (full : Env) (there : Fits known types i out b occurs seen full) (m : Match w hold full) (counted : Counted s hold) where
           abbrev R : Hold → Env → Type 0
           R = Ends full here [] [] nothing outs_c hold
 
@@ -212,7 +212,7 @@ module _ (known : Module) (types i : Instance) (declared : AreGoodTypes known.ty
 
           along_c : Like R (flat condition) (events (node_trace program calls c full)) × Sure condition
           along_c =
-              gc.along nothing [] [] out_c b seen here hold full fit.0 (λ x h. clash h refl) (λ x h. clash h refl) sound_c fits_c fit_c (match_less w [] hold full (λ x h. clash h refl) m) ready_c names
+              gc.along nothing [] [] out_c b seen here hold full fit.0 (λ x h. clash h refl) (λ x h. clash h refl) sound_c fits_c fit_c (match_less w [] hold full (λ x h. clash h refl) m) ready_c names (λ x h. clash h refl)
 
           facts_c : Each P (events (node_trace program calls c full))
           facts_c =
@@ -234,7 +234,8 @@ module _ (known : Module) (types i : Instance) (declared : AreGoodTypes known.ty
           then_along : (d : Hold) (q : Env) → RP d q → Like Q (flat (then_course d)) (events (node_trace program calls t q)) × Sure (then_course d)
           then_along d q k =
               let a = arm_along known types i declared program calls lawful plan split course t maket fitst gt later w s fit.1.0 out_t b_t seen_t Here_t d sound_t (fit_then b here w nothing outs_c hold d k.0.0 f)
-              (ready_then b here w nothing outs_c hold d k.0.0 (in_node t) ready_t) (k.0.0.names names) q (fits_t q k.1) (match_then b here w nothing outs_c hold d k.0.0 full q m k.0.1.0 k.0.1.1) outs (has_then k.1.1) in (
+              (ready_then b here w nothing outs_c hold d k.0.0 (in_node t) ready_t) (k.0.0.names names) q (fits_t q k.1) (match_then b here w nothing outs_c hold d k.0.0 full q m k.0.1.0 k.0.1.1)
+              (λ x h. counted x h ∙ ap length (sym (k.0.0.unsigned x refl))) outs (has_then k.1.1) in (
                 like_more (Ends q Here_t w s later outs d) Q (λ d1 q1 l. (moves_then b here w nothing outs_c hold d k.0.0 s later outs d1 l.0, (l.1.0, λ x v h. l.1.1 x v (k.0.1.1 x v h)))) (flat (then_course d)) (events (node_trace program calls t q)) a.0,
                 a.1,
               )
@@ -242,7 +243,7 @@ module _ (known : Module) (types i : Instance) (declared : AreGoodTypes known.ty
           else_along : Like Q (flat else_course) (events (node_trace program calls e full)) × Sure else_course
           else_along =
               arm_along known types i declared program calls lawful plan split course e makee fitse ge later w s fit.1.1 out_e b seen here hold sound_e f ready_e names full
-              (fits_part known types i out out_e b (in_node e) occurs seen full in_else (λ x h. or_left (out x) (in_node c x || in_node t x) h) there) m outs sound.parallel.outputs.2.1
+              (fits_part known types i out out_e b (in_node e) occurs seen full in_else (λ x h. or_left (out x) (in_node c x || in_node t x) h) there) m counted outs sound.parallel.outputs.2.1
 
           choice_along : Like Q (flat (c_choose then_course else_course condition)) (events (t_choose (λ q. node_trace program calls t q) (node_trace program calls e full) (node_trace program calls c full)))
               × Sure (c_choose then_course else_course condition)
@@ -271,7 +272,7 @@ module _ (known : Module) (types i : Instance) (declared : AreGoodTypes known.ty
           own_along : Like (Ends hold.env here [] [] nothing outs_c hold) (flat condition) own_trace
           own_along =
               (gc.along nothing [] [] out_c b (occurring c seen) here hold hold.env fit.0 (λ x h. clash h refl) (λ x h. clash h refl) (sound_occurring known types i out_c b seen c sound_c)
-              (hold_fits known types i out_c b seen c here hold fine_c fit_c ready_c) fit_c (match_self hold) ready_c names).0
+              (hold_fits known types i out_c b seen c here hold fine_c fit_c ready_c) fit_c (match_self hold) ready_c names (λ x h. clash h refl)).0
 
           quiet_c : Quiet hold.next [] condition
           quiet_c = gc.quiet nothing out_c b seen here hold fit.0 sound_c fine_c fit_c ready_c names
@@ -464,11 +465,12 @@ module _ (known : Module) (types i : Instance) (declared : AreGoodTypes known.ty
       ready1 : Ready Here1 (unused_in c w) b occurs
       ready1 = let d = divides_those (in_node c) w in ready_waited b here w (used_in c w) (unused_in c w) hold hold1 d.parts d.in1 d.in2 d.apart occurs r
 
-      along_waited : (full : Env) → Fits known types i out b occurs seen full → Match w hold full
+      along_waited : (full : Env) → Fits known types i out b occurs seen full → Match w hold full → Counted s hold
           → Like (Ends full Here1 (unused_in c w) s later outs hold1) (flat (node_branch plan split course (inner later w s) hold1)) (events (node_trace program calls whole full)) × Sure (node_branch plan split course (inner later w s) hold1)
-      along_waited full there m =
+      along_waited full there m counted =
           let d = divides_those (in_node c) w in
           along_inner out b seen sound later (unused_in c w) s Here1 hold1 fit (not_used w) fit1 ready1 (p.moves.names names) full there (match_waited b here w (used_in c w) (unused_in c w) hold hold1 d.parts d.in1 d.in2 d.apart full f m p)
+          (λ x h. counted x h ∙ ap length (sym (p.moves.unsigned x refl)))
 
       uses_waited : (proper : ℕ → Value → Type 0) (rights : ℕ → Bool) (held held1 : List ℕ) (g : List Gift) → Proper known types i seen whole s hold proper → AllUsed w occurs → can_fail_of (category_at whole) ≡ false
           → Fine known types i out b occurs seen hold → Rightful w s outs rights held g hold → StillWaits plan split course span (used_in c w) hold held held1
@@ -483,10 +485,10 @@ module _ (known : Module) (types i : Instance) (declared : AreGoodTypes known.ty
 
     pub goes_if : Goes known types i program calls plan split course whole made due
     goes_if = record {
-      along = λ later w s out b seen here hold full fit all within sound there f m r names.
-          around_along plan split course (joined later (unused_in c w) s) outs cat span here w (used_in c w) (unused_in c w) s [] s later hold (divides_those (in_node c) w) (divides_second s) b full (events (node_trace program calls whole full)) within
+      along = λ later w s out b seen here hold full fit all within sound there f m r names counted.
+          around_along plan split course (joined later (unused_in c w) s) outs cat span here w (used_in c w) (unused_in c w) s [] s later hold (divides_those (in_node c) w) (divides_second s) names counted (λ x h. clash h refl) b full (events (node_trace program calls whole full)) within
           (once_same (answers_once outs cat) (goal_trace program calls (Conditional c t e) full)) (waitable hold names) f (those_once (in_node c) w f.once) m
-          (λ hold1 p. along_waited later w s out b seen here hold fit sound f r names hold1 p full there m) (used_in c w) [] refl refl;
+          (λ hold1 p. along_waited later w s out b seen here hold fit sound f r names hold1 p full there m counted) (used_in c w) [] refl refl;
       uses = λ later w s out b seen here hold rights held g proper is_proper fit all sound can fine f r names q.
           around_uses plan split course (joined later (unused_in c w) s) outs cat span here w (used_in c w) (unused_in c w) s [] s later hold (divides_those (in_node c) w) (divides_second s) known types i out b occurs seen seen never proper rights held g
           names f q (λ x h. all x (those_in (in_node c) w x h).0) (those_once (in_node c) w f.once) (λ x h. clash h refl)

@@ -64,6 +64,7 @@ no_waits here w later last outs hold hold1 none m = record {
   names = m.names;
   signed = m.signed;
   still = m.still;
+  unsigned = m.unsigned;
 }
 
 pub signs_then : (here : Set) (later : ℕ → Bool) (outs : List ℕ) (hold hold1 : Hold) → Moves here [] [] later outs hold hold1 → (x : ℕ) → signs x hold1 ≡ signs x hold
@@ -106,6 +107,7 @@ module _ (b : Bound) (here : Set) (w : List Right) (later : ℕ → Bool) (outs 
     names = λ k. n.names (m.names k);
     signed = λ x c h. m.signed x c (n.signed x c h);
     still = λ k. n.still k ∙ m.still (λ x. refl);
+    unsigned = λ x h. n.unsigned x h ∙ m.unsigned x refl;
   }
 
   -- where the condition uses nothing of what is still waited for

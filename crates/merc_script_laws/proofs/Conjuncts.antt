@@ -1,8 +1,8 @@
 -- The conjuncts of a parallel conjunction, one by one: what they have, wait for and signal.
-use Rattle.std.proofs.Common.{◌≡◌, ◌⊎◌, inl, inr, ℕ, zero, suc, ◌+◌, ◌≤◌, ◌<◌, Bool, true, false, not, ◌==◌, ◌||◌, if◌then◌else◌, nat_eq, List, [], ◌∷◌, ◌++◌, length, map, filter, Option, Some, None, refl, ap, sym, subst, ◌∙◌, arith}
+use Rattle.std.proofs.Common.{◌≡◌, ◌⊎◌, inl, inr, ℕ, suc, ◌+◌, ◌≤◌, ◌<◌, true, false, ◌==◌, ◌||◌, nat_eq, List, [], ◌∷◌, ◌++◌, length, map, Option, Some, refl, ap, sym, subst, ◌∙◌, arith}
 use Rattle.std.proofs.lemmas.Bool.Decides.{nat_tests}
 use Rattle.merc_value.specs.Value.{Value}
-use Rattle.merc_graded_tree.specs.Nodes.{Node, Nodes, no_nodes, more_nodes, outputs_of}
+use Rattle.merc_graded_tree.specs.Nodes.{Node, Nodes, more_nodes, outputs_of}
 use Rattle.merc_graded_tree.specs.Variables.{among, in_node, in_nodes}
 use Rattle.merc_order.specs.Bound.{Bound, with}
 use Rattle.merc_meaning.specs.Trace.{Env}
@@ -10,22 +10,22 @@ use Rattle.merc_meaning.specs.Steps.{value_at}
 use Rattle.merc_core.specs.Rights.{has}
 use Rattle.merc_core.specs.WellFormed.{AreDistinct}
 use Rattle.merc_par_split.specs.declared.sites.CellInfo.{CellInfo}
-use Rattle.merc_par_split.specs.Rights.{Right, right_to, those, used_in, users}
+use Rattle.merc_par_split.specs.Rights.{Right, right_to, used_in, users}
 use Rattle.merc_par_split.specs.Sites.{count, are_for, consumers, cells_of}
-use Rattle.merc_plan.specs.Branch.{HeldWait, HeldSignal, Hold, NamedCell, Fork, Gift, gift_at, value_given}
+use Rattle.merc_plan.specs.Branch.{HeldSignal, Hold, NamedCell, Fork, Gift, gift_at, value_given}
 use Rattle.merc_plan.specs.Hold.{child_for, fork_of}
 use Rattle.merc_plan.proofs.Judging.{signals_to, waits_to}
-use Rattle.merc_plan.proofs.Sets.{clash, tell, absent, same_number, or_left, or_right, or_either, in_left, in_right, in_either}
+use Rattle.merc_plan.proofs.Sets.{clash, tell, same_number, or_left, or_right, or_either, in_left, in_right, in_either}
 use Rattle.merc_script_laws.specs.Parallel.{all_outputs}
 use Rattle.merc_script_laws.proofs.Bonds.{Set, Here, Owed, signs, rights_for, Within, Fit, Match, Names, Kept, Ready, Rightful}
-use Rattle.merc_script_laws.proofs.RightLists.{variables_of, unlisted, listed, those_in, in_those, those_once, none_for, not_for}
+use Rattle.merc_script_laws.proofs.RightLists.{variables_of, unlisted, those_in, in_those, those_once, none_for}
 use Rattle.merc_script_laws.proofs.Holding.{none_in}
-use Rattle.merc_script_laws.proofs.Members.{Member, member_left, member_right, member_either, made_from, is_made, numbered, number_in, has_member, member_has, distinct_both, distinct_left, distinct_right, distinct_apart, map_both, map_twice}
+use Rattle.merc_script_laws.proofs.Members.{Member, member_left, member_right, member_either, made_from, is_made, numbered, has_member, member_has, distinct_both, distinct_left, distinct_right, map_both}
 use Rattle.merc_script_laws.proofs.Cells.{name_of, rights_signal, rights_wait}
-use Rattle.merc_script_laws.proofs.Sites.{among_has, has_among, nth, bound_by, same_some, nth_low, later_nth, first_nth, past_nth, nth_in, different, Fact, fact, cell_for, used_cell}
+use Rattle.merc_script_laws.proofs.Sites.{among_has, has_among, nth, bound_by, same_some, nth_low, later_nth, first_nth, past_nth, nth_in, different, Fact, cell_for, used_cell}
 use Rattle.merc_script_laws.proofs.SiteMoves.{right_of, is_right, signal_child, wait_child, child_signal, child_wait, no_signal}
 use Rattle.merc_script_laws.proofs.Counts.{all_signals, signals_within, signals_counted, owned, owned_later, owned_here, signs_moved, signs_own}
-use Rattle.merc_script_laws.proofs.Kids.{signal_cells, wait_cells, signs_member, member_signs, signs_cell, owed_member, owed_cell, Listed, names_listed, info, cells, own, fact_of, own_bound, same_own, kid, OwnWait, OwnSign, owed_cases, sign_cases, own_sign, moved_sign, own_owed, moved_owed, kid_listed, kid_here, here_kid}
+use Rattle.merc_script_laws.proofs.Kids.{member_signs, signs_cell, owed_cell, Listed, names_listed, info, cells, own, fact_of, own_bound, kid, OwnWait, OwnSign, owed_cases, sign_cases, own_owed, moved_owed, kid_listed, kid_here, here_kid}
 
 -- rights for these variables
 abbrev pub rights_to : ℕ → List ℕ → List Right
@@ -180,6 +180,7 @@ module _ (goals : Nodes) (outputs : List ℕ) (w s : List Right) (b : Bound) (he
       on z f ev ep ec = side f.user where
         behind : one.producer < k → (one.producer < k) × (has one.variable left ≡ true)
         behind l = (l, subst (λ y. has y left ≡ true) (sym ev) (a.made_left z.producer f.maker z.variable (subst (λ y. y < k) ep l) f.is_maker f.binds))
+
         side : ((z.consumer ≡ 0) × (among outputs z.variable ≡ true)) ⊎ ((z.producer < z.consumer) × ((m : Node) × ((nth 1 z.consumer goals ≡ Some m) × (in_node m z.variable ≡ true)))) → (one.producer < k) × (has one.variable left ≡ true)
         side (inl h) = let i = h.0 in let o = a.from_one in absurd (omega (arith, i, c, ec, o))
         side (inr h) = let i = h.0 in behind (omega (arith, i, ep, ec, c))
@@ -189,9 +190,14 @@ module _ (goals : Nodes) (outputs : List ℕ) (w s : List Right) (b : Bound) (he
     left_owed x h i =
         let q = a.left_made x h in
         let z = used_cell outputs 1 q.0 k x q.1.0 n goals q.1.1.1.0 q.1.1.1.1 this_one i q.1.1.0 in
-        let o = name_of hold.next (cells goals outputs w s hold) (cell_for x q.0 k) z in
-        (o.one.cell, (value_given (gift_at o.one.cell given), subst (λ y. Owed hold_k y o.one.cell (value_given (gift_at o.one.cell given))) o.variable
-        (own_owed goals outputs w s hold k goal given distinct names apart o.one o.there o.consumer)))
+        let o = name_of hold.next (cells goals outputs w s hold) (cell_for x q.0 k) z in (
+          o.one.cell,
+          (
+            value_given (gift_at o.one.cell given),
+            subst (λ y. Owed hold_k y o.one.cell (value_given (gift_at o.one.cell given))) o.variable
+                (own_owed goals outputs w s hold k goal given distinct names apart o.one o.there o.consumer),
+          ),
+        )
 
     pub moves_here : (x : ℕ) → are_for w x ≡ true → in_node n x ≡ true → child_for false x (info goals outputs w s hold).moves ≡ Some k
     moves_here x h i = child_wait outputs w s goals x k n (single x h) this_one i h
@@ -217,7 +223,7 @@ module _ (goals : Nodes) (outputs : List ℕ) (w s : List Right) (b : Bound) (he
     once_k : AreDistinct (variables_of wk)
     once_k = those_once (in_node n) (rights_to k left ++ w) (subst AreDistinct (sym (map_both (λ (right : Right). right.variable) (rights_to k left) w ∙ ap (λ l. l ++ variables_of w) (same_numbers k left)))
         (distinct_both left (variables_of w) (distinct_left left (all_outputs (more_nodes n ns)) a.split) fit.once (λ x h i.
-          let e = fit.owed x (unlisted w x i) in apart x e.0 e.1.0 e.1.1 (a.left_bound x h))))
+        let e = fit.owed x (unlisted w x i) in apart x e.0 e.1.0 e.1.1 (a.left_bound x h))))
 
     pub fit_k : Fit bk here_k wk hold_k
     fit_k = record {
@@ -236,6 +242,7 @@ module _ (goals : Nodes) (outputs : List ℕ) (w s : List Right) (b : Bound) (he
       there : here x ⊎ (are_for w x ≡ true) → here_k x ⊎ (are_for wk x ≡ true)
       there (inl h) = inl (h, i)
       there (inr h) = inr (in_those (in_node n) (rights_to k left ++ w) x (more_right k left w x h) i)
+
       on : (b x ≡ true) ⊎ (has x left ≡ true) → here_k x ⊎ (are_for wk x ≡ true)
       on (inl h) = there (ready x (in_all x i) h)
       on (inr h) = inr (in_those (in_node n) (rights_to k left ++ w) x (left_right k left w x h) i)
@@ -275,10 +282,10 @@ module _ (goals : Nodes) (outputs : List ℕ) (w s : List Right) (b : Bound) (he
     counts_k counts x h =
         signals_counted (suc k) ns outputs s n x (distinct_left (outputs_of n) (all_outputs ns) (distinct_right left (all_outputs (more_nodes n ns)) a.split)) h
         ∙ turned (length (rights_for x s)) (length (consumers (suc k) ns outputs x)) ∙ ap (λ z. z + length (rights_for x s)) (sym (counts_own x h)) ∙ on (tell (are_for s x)) where
-      on : (are_for s x ≡ true) ⊎ (are_for s x ≡ false) → owned k x (cells goals outputs w s hold) + length (rights_for x s) ≡ length (signs x hold_k)
-      on (inl i) = ap (λ z. owned k x (cells goals outputs w s hold) + z) (counts x i)
-          ∙ sym (signs_moved (info goals outputs w s hold) k goal hold given x (child_signal outputs w s goals distinct x k n this_one (has_among x (outputs_of n) h) i))
-      on (inr i) = ap (λ (l : List Right). owned k x (cells goals outputs w s hold) + length l) (none_for x s i) ∙ sym (signs_own (info goals outputs w s hold) k goal hold given x (no_signal outputs w s goals x i))
+          on : (are_for s x ≡ true) ⊎ (are_for s x ≡ false) → owned k x (cells goals outputs w s hold) + length (rights_for x s) ≡ length (signs x hold_k)
+          on (inl i) = ap (λ z. owned k x (cells goals outputs w s hold) + z) (counts x i)
+              ∙ sym (signs_moved (info goals outputs w s hold) k goal hold given x (child_signal outputs w s goals distinct x k n this_one (has_among x (outputs_of n) h) i))
+          on (inr i) = ap (λ (l : List Right). owned k x (cells goals outputs w s hold) + length l) (none_for x s i) ∙ sym (signs_own (info goals outputs w s hold) k goal hold given x (no_signal outputs w s goals x i))
 
     pub within_k : Within sk (outputs_of n)
     within_k x h = has_among x (outputs_of n) (signals_within (suc k) ns outputs s n x h)

@@ -1,8 +1,6 @@
 -- A conjunct has as many rights to signal a variable as it signals it.
-use Rattle.std.proofs.Common.{◌≡◌, ◌⊎◌, inl, inr, ℕ, zero, suc, ◌+◌, ◌≤◌, ◌<◌, Bool, true, false, not, ◌==◌, ◌&&◌, if◌then◌else◌, nat_eq, List, [], ◌∷◌, ◌++◌, length, map, filter, flat_map, Option, Some, None, refl, ap, sym, subst, ◌∙◌, arith}
-use Rattle.std.proofs.lemmas.Bool.Decides.{nat_tests}
+use Rattle.std.proofs.Common.{◌≡◌, ◌⊎◌, inl, inr, ℕ, suc, ◌+◌, ◌<◌, Bool, true, false, ◌==◌, ◌&&◌, if◌then◌else◌, List, [], ◌∷◌, ◌++◌, length, map, filter, flat_map, Option, Some, None, refl, ap, sym, subst, ◌∙◌, arith}
 use Rattle.merc_graded_tree.specs.Nodes.{Node, Nodes, no_nodes, more_nodes, outputs_of}
-use Rattle.merc_graded_tree.specs.Variables.{among}
 use Rattle.merc_core.specs.Rights.{has}
 use Rattle.merc_core.specs.WellFormed.{AreDistinct}
 use Rattle.merc_par_split.specs.declared.sites.CellInfo.{CellInfo}
@@ -12,11 +10,11 @@ use Rattle.merc_par_split.specs.Rights.{Right, right_to, those, is_sooner, with_
 use Rattle.merc_par_split.specs.Sites.{consumers, cells_of, are_for}
 use Rattle.merc_plan.specs.Branch.{HeldSignal, Hold, NamedCell, Gift}
 use Rattle.merc_plan.specs.Hold.{named, own_signals, child_for, goes_to, signals_into, conjunct_hold}
-use Rattle.merc_plan.proofs.Sets.{clash, tell, same_number, is_same, and_both}
+use Rattle.merc_plan.proofs.Sets.{clash, tell, same_number, is_same}
 use Rattle.merc_script_laws.proofs.Bonds.{signs, rights_for}
-use Rattle.merc_script_laws.proofs.Members.{Member, member_either, passing, made_from, joined_from, has_member, member_has, map_both, map_twice, filter_both, filter_none, filter_all, filter_joined_one, filter_joined_none, length_both, length_map}
+use Rattle.merc_script_laws.proofs.Members.{Member, passing, made_from, joined_from, member_has, filter_both, filter_none, filter_all, filter_joined_one, length_both, length_map}
 use Rattle.merc_script_laws.proofs.Cells.{same_variables}
-use Rattle.merc_script_laws.proofs.Sites.{among_has, cell_for, cells_for}
+use Rattle.merc_script_laws.proofs.Sites.{cell_for, cells_for}
 use Rattle.merc_script_laws.proofs.SiteMoves.{right_of}
 
 not_equal : (x y : ℕ) → (x ≡ y → ⊥) → (x == y) ≡ false
@@ -33,7 +31,7 @@ head_case x false r rs ss h = h
 
 swap_case : (x : ℕ) (a b : Bool) (r q : Right) (rs : List Right)
     → length (if b then q ∷ (if a then r ∷ rights_for x rs else rights_for x rs) else (if a then r ∷ rights_for x rs else rights_for x rs))
-      ≡ length (if a then r ∷ (if b then q ∷ rights_for x rs else rights_for x rs) else (if b then q ∷ rights_for x rs else rights_for x rs))
+    ≡ length (if a then r ∷ (if b then q ∷ rights_for x rs else rights_for x rs) else (if b then q ∷ rights_for x rs else rights_for x rs))
 swap_case x true true r q rs = refl
 swap_case x true false r q rs = refl
 swap_case x false true r q rs = refl
@@ -86,9 +84,9 @@ placed_members a (r ∷ rs) ss h = on (placed_members a rs (with_right r ss) h) 
 pub signal_variable : (next : ℕ) (rest : Nodes) (outputs : List ℕ) (moved : List Right) (x : ℕ) (r : Right) → Member r (signals_of next rest outputs moved x) → r.variable ≡ x
 signal_variable next rest outputs moved x r h =
     on (placed_members r (those (λ other. other == x) moved) (map (λ conjunct. right_to conjunct x) (consumers next rest outputs x)) h) where
-  on : Member r (those (λ other. other == x) moved) ⊎ Member r (map (λ conjunct. right_to conjunct x) (consumers next rest outputs x)) → r.variable ≡ x
-  on (inl k) = same_number r.variable x (passing (λ (right : Right). right.variable == x) r moved k).1
-  on (inr k) = let q = made_from (λ conjunct. right_to conjunct x) r (consumers next rest outputs x) k in ap (λ (z : Right). z.variable) q.1.1
+      on : Member r (those (λ other. other == x) moved) ⊎ Member r (map (λ conjunct. right_to conjunct x) (consumers next rest outputs x)) → r.variable ≡ x
+      on (inl k) = same_number r.variable x (passing (λ (right : Right). right.variable == x) r moved k).1
+      on (inr k) = let q = made_from (λ conjunct. right_to conjunct x) r (consumers next rest outputs x) k in ap (λ (z : Right). z.variable) q.1.1
 
 abbrev pub all_signals : ℕ → Nodes → List ℕ → List Right → Node → List Right
 all_signals next rest outputs moved n = flat_map (signals_of next rest outputs moved) (outputs_of n)
@@ -102,17 +100,17 @@ signals_within next rest outputs moved n x h =
 own_rights : (x : ℕ) (cs : List ℕ) → length (rights_for x (map (λ conjunct. right_to conjunct x) cs)) ≡ length cs
 own_rights x cs =
     ap length (filter_all (λ (right : Right). right.variable == x) (map (λ conjunct. right_to conjunct x) cs)
-      (λ r m. let q = made_from (λ conjunct. right_to conjunct x) r cs m in subst (λ z. (z == x) ≡ true) (ap (λ (z : Right). z.variable) (sym q.1.1)) (is_same x)))
+    (λ r m. let q = made_from (λ conjunct. right_to conjunct x) r cs m in subst (λ z. (z == x) ≡ true) (ap (λ (z : Right). z.variable) (sym q.1.1)) (is_same x)))
     ∙ length_map (λ conjunct. right_to conjunct x) cs
 
 pub signals_counted : (next : ℕ) (rest : Nodes) (outputs : List ℕ) (moved : List Right) (n : Node) (x : ℕ) → AreDistinct (outputs_of n) → has x (outputs_of n) ≡ true
     → length (rights_for x (all_signals next rest outputs moved n)) ≡ length (rights_for x moved) + length (consumers next rest outputs x)
 signals_counted next rest outputs moved n x d h =
     ap length (filter_joined_one (λ (right : Right). right.variable == x) (signals_of next rest outputs moved) x (outputs_of n) d h
-      (λ y e. filter_none (λ (right : Right). right.variable == x) (signals_of next rest outputs moved y) (λ r m. not_equal r.variable x (λ q. e (sym q ∙ signal_variable next rest outputs moved y r m)))))
+    (λ y e. filter_none (λ (right : Right). right.variable == x) (signals_of next rest outputs moved y) (λ r m. not_equal r.variable x (λ q. e (sym q ∙ signal_variable next rest outputs moved y r m)))))
     ∙ both_counted x (those (λ other. other == x) moved) (map (λ conjunct. right_to conjunct x) (consumers next rest outputs x))
     ∙ ap (λ m. m + length (rights_for x (map (λ conjunct. right_to conjunct x) (consumers next rest outputs x))))
-      (ap length (filter_all (λ (right : Right). right.variable == x) (rights_for x moved) (λ r m. (passing (λ (right : Right). right.variable == x) r moved m).1)))
+    (ap length (filter_all (λ (right : Right). right.variable == x) (rights_for x moved) (λ r m. (passing (λ (right : Right). right.variable == x) r moved m).1)))
     ∙ ap (λ m. length (rights_for x moved) + m) (own_rights x (consumers next rest outputs x))
 
 -- Own cells that a conjunct has for a variable.
@@ -134,21 +132,21 @@ are_both false b h k = absurd (cc)
 
 later_cells : (at j x : ℕ) (outputs : List ℕ) (n : Node) (ns : Nodes) → (at == j) ≡ false → filter (λ (z : CellInfo). (z.producer == j) && (z.variable == x)) (flat_map (cells_for at outputs ns) (outputs_of n)) ≡ []
 later_cells at j x outputs n ns e = filter_none (λ (z : CellInfo). (z.producer == j) && (z.variable == x)) (flat_map (cells_for at outputs ns) (outputs_of n)) (λ z m.
-  let r = joined_from (cells_for at outputs ns) z (outputs_of n) m in
-  let q = made_from (λ consumer. cell_for r.0 at consumer) z (consumers (suc at) ns outputs r.0) r.1.1 in
-  not_first (z.producer == j) (z.variable == x) (ap (λ (c : CellInfo). c.producer == j) q.1.1 ∙ e))
+    let r = joined_from (cells_for at outputs ns) z (outputs_of n) m in
+    let q = made_from (λ consumer. cell_for r.0 at consumer) z (consumers (suc at) ns outputs r.0) r.1.1 in
+    not_first (z.producer == j) (z.variable == x) (ap (λ (c : CellInfo). c.producer == j) q.1.1 ∙ e))
 
 pub owned_later : (at j x : ℕ) (outputs : List ℕ) (n : Node) (ns : Nodes) → at < j → owned j x (cells_of at outputs (more_nodes n ns)) ≡ owned j x (cells_of (suc at) outputs ns)
 owned_later at j x outputs n ns l =
     ap length (filter_both (λ (z : CellInfo). (z.producer == j) && (z.variable == x)) (flat_map (cells_for at outputs ns) (outputs_of n)) (cells_of (suc at) outputs ns))
     ∙ ap (λ (f : List CellInfo). length (f ++ filter (λ (z : CellInfo). (z.producer == j) && (z.variable == x)) (cells_of (suc at) outputs ns)))
-      (later_cells at j x outputs n ns (not_equal at j (λ e. absurd (omega (arith, e, l)))))
+    (later_cells at j x outputs n ns (not_equal at j (λ e. absurd (omega (arith, e, l)))))
 
 own_cells : (at x : ℕ) (outputs : List ℕ) (ns : Nodes) → length (filter (λ (z : CellInfo). (z.producer == at) && (z.variable == x)) (cells_for at outputs ns x)) ≡ length (consumers (suc at) ns outputs x)
 own_cells at x outputs ns =
     ap length (filter_all (λ (z : CellInfo). (z.producer == at) && (z.variable == x)) (cells_for at outputs ns x) (λ z m.
-      let q = made_from (λ consumer. cell_for x at consumer) z (consumers (suc at) ns outputs x) m in
-      are_both (z.producer == at) (z.variable == x) (subst (λ (c : CellInfo). (c.producer == at) ≡ true) (sym q.1.1) (is_same at)) (subst (λ (c : CellInfo). (c.variable == x) ≡ true) (sym q.1.1) (is_same x))))
+    let q = made_from (λ consumer. cell_for x at consumer) z (consumers (suc at) ns outputs x) m in
+    are_both (z.producer == at) (z.variable == x) (subst (λ (c : CellInfo). (c.producer == at) ≡ true) (sym q.1.1) (is_same at)) (subst (λ (c : CellInfo). (c.variable == x) ≡ true) (sym q.1.1) (is_same x))))
     ∙ length_map (λ consumer. cell_for x at consumer) (consumers (suc at) ns outputs x)
 
 none_behind : (at x : ℕ) (outputs : List ℕ) (ns : Nodes) (next : ℕ) → at < next → filter (λ (z : CellInfo). (z.producer == at) && (z.variable == x)) (cells_of next outputs ns) ≡ []
@@ -156,7 +154,7 @@ none_behind at x outputs no_nodes next l = refl
 none_behind at x outputs (more_nodes n ns) next l =
     filter_both (λ (z : CellInfo). (z.producer == at) && (z.variable == x)) (flat_map (cells_for next outputs ns) (outputs_of n)) (cells_of (suc next) outputs ns)
     ∙ ap (λ (f : List CellInfo). f ++ filter (λ (z : CellInfo). (z.producer == at) && (z.variable == x)) (cells_of (suc next) outputs ns))
-      (later_cells next at x outputs n ns (not_equal next at (λ e. absurd (omega (arith, e, l)))))
+    (later_cells next at x outputs n ns (not_equal next at (λ e. absurd (omega (arith, e, l)))))
     ∙ none_behind at x outputs ns (suc next) (omega (arith, l))
 
 nothing_behind : (xs : List CellInfo) → xs ++ [] ≡ xs
@@ -166,12 +164,12 @@ nothing_behind (x ∷ xs) = ap (λ l. x ∷ l) (nothing_behind xs)
 pub owned_here : (at x : ℕ) (outputs : List ℕ) (n : Node) (ns : Nodes) → AreDistinct (outputs_of n) → has x (outputs_of n) ≡ true → owned at x (cells_of at outputs (more_nodes n ns)) ≡ length (consumers (suc at) ns outputs x)
 owned_here at x outputs n ns d h =
     ap length (filter_both (λ (z : CellInfo). (z.producer == at) && (z.variable == x)) (flat_map (cells_for at outputs ns) (outputs_of n)) (cells_of (suc at) outputs ns)
-      ∙ ap (λ (f : List CellInfo). filter (λ (z : CellInfo). (z.producer == at) && (z.variable == x)) (flat_map (cells_for at outputs ns) (outputs_of n)) ++ f) (none_behind at x outputs ns (suc at) (omega (arith)))
-      ∙ nothing_behind (filter (λ (z : CellInfo). (z.producer == at) && (z.variable == x)) (flat_map (cells_for at outputs ns) (outputs_of n)))
-      ∙ filter_joined_one (λ (z : CellInfo). (z.producer == at) && (z.variable == x)) (cells_for at outputs ns) x (outputs_of n) d h (λ y e.
-        filter_none (λ (z : CellInfo). (z.producer == at) && (z.variable == x)) (cells_for at outputs ns y) (λ z m.
-          let q = made_from (λ consumer. cell_for y at consumer) z (consumers (suc at) ns outputs y) m in
-          not_both (z.producer == at) (z.variable == x) (ap (λ (c : CellInfo). c.variable == x) q.1.1 ∙ not_equal y x (λ p. e (sym p))))))
+    ∙ ap (λ (f : List CellInfo). filter (λ (z : CellInfo). (z.producer == at) && (z.variable == x)) (flat_map (cells_for at outputs ns) (outputs_of n)) ++ f) (none_behind at x outputs ns (suc at) (omega (arith)))
+    ∙ nothing_behind (filter (λ (z : CellInfo). (z.producer == at) && (z.variable == x)) (flat_map (cells_for at outputs ns) (outputs_of n)))
+    ∙ filter_joined_one (λ (z : CellInfo). (z.producer == at) && (z.variable == x)) (cells_for at outputs ns) x (outputs_of n) d h (λ y e.
+    filter_none (λ (z : CellInfo). (z.producer == at) && (z.variable == x)) (cells_for at outputs ns y) (λ z m.
+    let q = made_from (λ consumer. cell_for y at consumer) z (consumers (suc at) ns outputs y) m in
+    not_both (z.producer == at) (z.variable == x) (ap (λ (c : CellInfo). c.variable == x) q.1.1 ∙ not_equal y x (λ p. e (sym p))))))
     ∙ own_cells at x outputs ns
 
 -- The rights of a conjunct to signal a variable.
@@ -213,20 +211,25 @@ into_counted k x moves [] e = refl
 into_counted k x moves (r ∷ signals) e = on (tell (r.variable == x)) (into_counted k x moves signals e) where
   rest : List HeldSignal
   rest = signals_into k moves signals
+
   p : HeldSignal → Bool
   p right = right.variable == x
+
   case_in : (a b : Bool) → a ≡ true → b ≡ true → filter p rest ≡ filter p signals → (if a then r ∷ filter p signals else filter p signals) ≡ (if b then r ∷ filter p rest else filter p rest)
   case_in true true h i q = ap (λ l. r ∷ l) (sym q)
   case_in true false h i q = absurd (cc)
   case_in false b h i q = absurd (cc)
+
   keeps : (a : Bool) → a ≡ true → filter p rest ≡ filter p signals → (r.variable == x) ≡ true → filter p (if a then r ∷ rest else rest) ≡ filter p (r ∷ signals)
   keeps true h q i = sym (case_in (r.variable == x) (r.variable == x) i i q)
   keeps false h q i = absurd (cc)
+
   drops : (a b : Bool) → b ≡ false → filter p rest ≡ filter p signals → (b ≡ (r.variable == x)) → filter p (if a then r ∷ rest else rest) ≡ (if b then r ∷ filter p signals else filter p signals)
   drops true true h q i = absurd (cc)
   drops true false h q i = ap (λ (b : Bool). if b then r ∷ filter p rest else filter p rest) (sym i) ∙ q
   drops false true h q i = absurd (cc)
   drops false false h q i = q
+
   on : ((r.variable == x) ≡ true) ⊎ ((r.variable == x) ≡ false) → filter p rest ≡ filter p signals → filter p (signals_into k moves (r ∷ signals)) ≡ filter p (r ∷ signals)
   on (inl h) q = keeps (goes_to k (child_for true r.variable moves)) (subst (λ z. goes_to k (child_for true z moves) ≡ true) (sym (same_number r.variable x h)) (subst (λ z. goes_to k z ≡ true) (sym e) (is_same k))) q h
   on (inr h) q = drops (goes_to k (child_for true r.variable moves)) (r.variable == x) h q refl
@@ -237,8 +240,8 @@ not_goes k o e = ap (goes_to k) e
 none_into : (k x : ℕ) (moves : List Moved) (signals : List HeldSignal) → child_for true x moves ≡ None → filter (λ (right : HeldSignal). right.variable == x) (signals_into k moves signals) ≡ []
 none_into k x moves signals e =
     filter_none (λ (right : HeldSignal). right.variable == x) (signals_into k moves signals) (λ r m.
-      not_equal r.variable x (λ q. clash (goes_to k (child_for true r.variable moves)) (passing (λ (right : HeldSignal). goes_to k (child_for true right.variable moves)) r signals m).1
-        (not_goes k (child_for true r.variable moves) (subst (λ z. child_for true z moves ≡ None) (sym q) e))))
+    not_equal r.variable x (λ q. clash (goes_to k (child_for true r.variable moves)) (passing (λ (right : HeldSignal). goes_to k (child_for true right.variable moves)) r signals m).1
+    (not_goes k (child_for true r.variable moves) (subst (λ z. child_for true z moves ≡ None) (sym q) e))))
 
 module _ (info : SiteInfo) (k : ℕ) (goal : Node) (hold : Hold) (given : List Gift) (x : ℕ) where
   signs_parts : length (signs x (conjunct_hold info k goal hold given)) ≡ owned k x info.cells + length (filter (λ (right : HeldSignal). right.variable == x) (signals_into k info.moves hold.signals))

@@ -170,6 +170,7 @@ module _ (here : Set) (r : Right) (c : ℕ) (v : Value) (hold : Hold) (can : Wai
     names = taken_names;
     signed = λ y d h. h;
     still = λ k. refl;
+    unsigned = λ x h. refl;
   } where
     got : (y d : ℕ) (o : Option Value) → r.variable ≡ y → Owed hold y d o → (u : Value) × ((o ≡ Some u) × Here (taken hold r.variable v) y u)
     got y d o p f = (
@@ -297,9 +298,9 @@ sent_sends hold c = record {
   owed x d o e = record { right = e.right; found = e.found; at = e.at; gives = e.gives }
 
 pub moves_sent : (here : Set) (w s s1 : List Right) (later : ℕ → Bool) (outs : List ℕ) (hold hold1 hold2 : Hold)
-    → (((x : ℕ) → are_for s x ≡ false) → ((x : ℕ) → are_for s1 x ≡ false) × (hold2.signals ≡ hold1.signals)) → Moves here w s1 later outs hold hold1 → Sends hold1 hold2
+    → (((x : ℕ) → are_for s x ≡ false) → ((x : ℕ) → are_for s1 x ≡ false) × (hold2.signals ≡ hold1.signals)) → ((x : ℕ) → are_for s x ≡ false → (are_for s1 x ≡ false) × (signs x hold2 ≡ signs x hold1)) → Moves here w s1 later outs hold hold1 → Sends hold1 hold2
     → Moves here w s later outs hold hold2
-moves_sent here w s s1 later outs hold hold1 hold2 none m p = record {
+moves_sent here w s s1 later outs hold hold1 hold2 none others m p = record {
   keep = λ x v i h. at x v (m.keep x v i h);
   fresh = λ x h. let g = m.fresh x h in (g.0, at x g.0 g.1);
   got = λ x c o h l e. let g = m.got x c o h l e in (g.0, (g.1.0, at x g.0 g.1.1));
@@ -309,6 +310,7 @@ moves_sent here w s s1 later outs hold hold1 hold2 none m p = record {
   names = λ n. p.names (m.names n);
   signed = λ x c h. m.signed x c (p.signed x c h);
   still = λ k. (none k).1 ∙ m.still (none k).0;
+  unsigned = λ x h. (others x h).1 ∙ m.unsigned x (others x h).0;
 } where
   at : (x : ℕ) (v : Value) → Here hold1 x v → Here hold2 x v
   at x v h = ap (λ n. value_at n x) p.env ∙ h

@@ -1,5 +1,5 @@
 -- Goals that go one after the other: each right goes into the first that uses its variable, or binds it.
-use Rattle.std.proofs.Common.{◌≡◌, ◌⊎◌, inl, inr, ℕ, ◌+◌, Bool, true, false, is_some, List, [], ◌∷◌, ◌++◌, Some, refl, ap, sym, subst, ◌∙◌}
+use Rattle.std.proofs.Common.{◌≡◌, ◌⊎◌, inl, inr, ℕ, ◌+◌, Bool, true, false, is_some, List, [], ◌∷◌, ◌++◌, Some, refl, ap, sym, subst, ◌∙◌, length}
 use Rattle.std.specs.List.{AllByRecursion}
 use Rattle.merc_base.specs.Category.{can_fail_of, most_of}
 use Rattle.merc_base.specs.declared.category.Category.{Category}
@@ -51,8 +51,8 @@ use Rattle.merc_plan.proofs.Flats.{flat_each, sure_each}
 use Rattle.merc_plan.proofs.Events.{events_each}
 use Rattle.merc_plan.proofs.Holds.{keeps_each, keeps_end, quiet_each}
 use Rattle.merc_script_laws.specs.Parallel.{all_outputs, AllKeepOutputs, AllHaveFew}
-use Rattle.merc_script_laws.proofs.Bonds.{Set, signs, Within, AllUsed, Fit, Fine, After, Match, Names, Moves, Ends, Ready, here_behind, Used, Rightful, Planned, Sound, Proper, Goes}
-use Rattle.merc_script_laws.proofs.RightLists.{not_not, those_in}
+use Rattle.merc_script_laws.proofs.Bonds.{Counted, Set, signs, Within, AllUsed, Fit, Fine, After, Match, Names, Moves, Ends, Ready, here_behind, Used, Rightful, Planned, Sound, Proper, Goes}
+use Rattle.merc_script_laws.proofs.RightLists.{not_not, those_in, not_those, for_those}
 use Rattle.merc_script_laws.proofs.Steps.{unused, or_later, joins_right, fit_first, fit_rest, match_first, match_rest, ready_first, ready_rest, moves_both, fine_first, fine_rest, after_both}
 use Rattle.merc_script_laws.proofs.Using.{rightful_first, rightful_rest, used_both}
 use Rattle.merc_script_laws.proofs.Seen.{occurring}
@@ -141,6 +141,7 @@ none_used here w s later hold none = record {
   names = λ n. n;
   signed = λ x c h. h;
   still = λ k. refl;
+  unsigned = λ x h. refl;
 }
 
 -- Given are the module, the types of the variables, and what type variables stand for; the program of the graded trees, whose calls are lawful; and the plan and
@@ -150,7 +151,7 @@ module _ (known : Module) (types i : Instance) (declared : AreGoodTypes known.ty
   -- what goals do that are made of others by putting rights into them
   pub record ListGoes (ns : Nodes) (make : (ℕ → Bool) → List Right → List Right → Nodes) (fits : (ℕ → Bool) → List Right → List Right → Type 0) : Type 1 where
     pub along : (later : ℕ → Bool) (w s : List Right) (out : Variables) (b : Bound) (seen : Known) (here : Set) (hold : Hold) (full : Env) → fits later w s → AllUsed w (in_nodes ns) → Within s (all_outputs ns)
-        → SoundAll known types i out b seen ns → Fits known types i out b (in_nodes ns) seen full → Fit b here w hold → Match w hold full → Ready here w b (in_nodes ns) → Names hold
+        → SoundAll known types i out b seen ns → Fits known types i out b (in_nodes ns) seen full → Fit b here w hold → Match w hold full → Ready here w b (in_nodes ns) → Names hold → Counted s hold
         → Like (Ends full here w s later (all_outputs ns) hold) (flat (all_branch plan split course (make later w s) hold)) (events (all_trace program calls ns full))
         × Sure (all_branch plan split course (make later w s) hold)
     pub uses : (later : ℕ → Bool) (w s : List Right) (out : Variables) (b : Bound) (seen : Known) (here : Set) (hold : Hold) (rights : ℕ → Bool) (held : List ℕ) (g : List Gift)
@@ -164,7 +165,7 @@ module _ (known : Module) (types i : Instance) (declared : AreGoodTypes known.ty
 
   pub list_none : (fits : (ℕ → Bool) → List Right → List Right → Type 0) → ListGoes no_nodes (λ later w s. no_nodes) fits
   list_none fits = record {
-    along = λ later w s out b seen here hold full fit all within sound there f t r names.
+    along = λ later w s out b seen here hold full fit all within sound there f t r names counted.
         (((none_used here w s later hold (λ x h. clash (all x h) refl), (t.same, λ x v e. e)), tt), tt);
     uses = λ later w s out b seen here hold rights held g proper is_proper fit all sound can fine f r names q. record {
       moves = none_used here w s later hold (λ x h. clash (all x h) refl);
@@ -233,7 +234,7 @@ module _ (known : Module) (types i : Instance) (declared : AreGoodTypes known.ty
           let k = those_in (unused (among outs)) s x h in
           elim (or_cases (among outs x) (among outs1 x) (sym (among_append x outs outs1) ∙ within x k.0)) as (λ _. among outs1 x ≡ true) [ inl p ↦ clash p (not_not (among outs x) k.1) | inr p ↦ p ]
 
-      module _ (full : Env) (all : AllUsed w (in_nodes both)) (within : Within s (outs ++ outs1)) (there : Fits known types i out b (in_nodes both) seen full) (t : Match w hold full) where
+      module _ (full : Env) (all : AllUsed w (in_nodes both)) (within : Within s (outs ++ outs1)) (there : Fits known types i out b (in_nodes both) seen full) (t : Match w hold full) (counted : Counted s hold) where
         abbrev R : Hold → Env → Type 0
         R = Ends full here (used_in n w) (bound_in n s) (later1 later) outs hold
 
@@ -250,6 +251,7 @@ module _ (known : Module) (types i : Instance) (declared : AreGoodTypes known.ty
         along_one =
             first.along (later1 later) (used_in n w) (bound_in n s) (with out (in_nodes ns)) b seen here hold full fit.0 (λ x h. (those_in (in_node n) w x h).1) (λ x h. (those_in (among outs) s x h).1) sound1 fits_one
             (fit_first (in_node n) (in_nodes ns) later b here w s outs hold hold f) (match_first (in_node n) (in_nodes ns) later b here w s outs hold hold full t) (ready_first (in_node n) (in_nodes ns) later b here w s outs hold hold r) names
+            (λ x h. let k = those_in (among outs) s x h in ap length (for_those (among outs) x s k.1) ∙ counted x k.0)
 
         goes_one : Each G (events (node_trace program calls n full))
         goes_one = each_event G (node_trace program calls n full) (node_law known declared program calls lawful types i n (with out (in_nodes ns)) b seen full sound1.good sound1.graded sound1.parts fits_one).goes
@@ -260,7 +262,9 @@ module _ (known : Module) (types i : Instance) (declared : AreGoodTypes known.ty
             (fits_rest known types i out (with out (in_nodes ns)) (with out (in_node n)) b (in_node n) (in_nodes ns) outs seen seen1 full q sub (λ x h. or_right (out x) (in_nodes ns x) h) (λ x h. or_right (out x) (in_node n x) h)
             (λ x h. or_left (out x) (in_node n x) h) there k.1)
             (fit_rest (in_node n) (in_nodes ns) later b here w s outs hold e f k.0.0) (match_rest (in_node n) (in_nodes ns) later b here w s outs hold e full q f t k.0.0 k.0.1.0 k.0.1.1)
-            (ready_rest (in_node n) (in_nodes ns) later b here w s outs hold e r) (k.0.0.names names) in (
+            (ready_rest (in_node n) (in_nodes ns) later b here w s outs hold e r) (k.0.0.names names)
+            (λ x h. let j = those_in (unused (among outs)) s x h in ap length (for_those (unused (among outs)) x s j.1) ∙ counted x j.0
+            ∙ ap length (sym (k.0.0.unsigned x (not_those (among outs) s x (λ a c. clash c (not_not (among outs x) j.1)))))) in (
               like_more (Ends q Behind (unused_in n w) (unbound_in n s) later outs1 e) Q
                   (λ e1 q1 l. (moves_both (in_node n) (in_nodes ns) later b here w s outs hold e outs1 e1 k.0.0 l.0, (l.1.0, λ x v h. l.1.1 x v (k.0.1.1 x v h))))
                   (flat (go_on e)) (events (all_trace program calls ns q)) a.0,
@@ -358,7 +362,7 @@ module _ (known : Module) (types i : Instance) (declared : AreGoodTypes known.ty
         let r1 = ready_first (in_node n) (in_nodes ns) later b here [] [] outs hold hold r in
         let t1 = node_branch plan split course (make (later1 later) [] []) hold in
         let a = first.along (later1 later) [] [] out1 b (occurring n seen) here hold hold.env fit.0 (λ x h. clash h refl) (λ x h. clash h refl) (sound_occurring known types i out1 b seen n s1)
-        (hold_fits known types i out1 b seen n here hold fine1 f1 r1) f1 (match_self hold) r1 names in
+        (hold_fits known types i out1 b seen n here hold fine1 f1 r1) f1 (match_self hold) r1 names (λ x h. clash h refl) in
         let P : Hold → Type 0 = Answered known types i declared program calls lawful out1 b seen n here hold s1 fine1 f1 r1 (later1 later) in
         quiet_each hold.next (λ e. all_branch plan split course (makes later [] []) e) t1 [] (first.quiet (later1 later) out1 b seen here hold fit.0 s1 fine1 f1 r1 names)
         (each_more P (λ e. Quiet hold.next [] (all_branch plan split course (makes later [] []) e))
@@ -371,7 +375,7 @@ module _ (known : Module) (types i : Instance) (declared : AreGoodTypes known.ty
 
     pub list_more : ListGoes both made due
     list_more = record {
-      along = λ later w s out b seen here hold full fit all within sound there f t r names. along_both later w s out b seen here hold fit sound f r names full all within there t;
+      along = λ later w s out b seen here hold full fit all within sound there f t r names counted. along_both later w s out b seen here hold fit sound f r names full all within there t counted;
       uses = λ later w s out b seen here hold rights held g proper is_proper fit all sound can fine f r names q. uses_both later w s out b seen here hold fit sound f r names proper rights held g is_proper all can fine q;
       quiet = quiet_both;
     }

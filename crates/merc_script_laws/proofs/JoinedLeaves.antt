@@ -47,7 +47,7 @@ ready_less here w b uses less i r x u h = r x (i x u) h
 
 pub fewer_outputs : (here : Set) (w s : List Right) (later : ℕ → Bool) (outs less : List ℕ) (hold hold' : Hold) → AreWithin less outs → Moves here w s later outs hold hold' → Moves here w s later less hold hold'
 fewer_outputs here w s later outs less hold hold' i m =
-    record { keep = m.keep; fresh = λ x h. m.fresh x (i x h); got = m.got; rest = m.rest; old = m.old; next = m.next; names = m.names; signed = m.signed; still = m.still }
+    record { keep = m.keep; fresh = λ x h. m.fresh x (i x h); got = m.got; rest = m.rest; old = m.old; next = m.next; names = m.names; signed = m.signed; still = m.still; unsigned = m.unsigned }
 
 no_first : {A : Type 0} (xs ys : List A) → xs ++ ys ≡ [] → xs ≡ []
 no_first [] ys h = refl
@@ -148,7 +148,7 @@ module _ (known : Module) (types i : Instance) (declared : AreGoodTypes known.ty
           → Match [] hold full → Ready here [] b (in_node n) → Names hold
           → Like (Ends full here [] [] nothing (outputs_of n) hold) (flat (one_course hold)) (events (node_trace program calls n full)) × Sure (one_course hold)
       first_along out b seen here hold full sound fits f t r names =
-          first.along nothing [] [] out b seen here hold full planned (λ x h. clash h refl) (λ x h. clash h refl) sound fits f t r names
+          first.along nothing [] [] out b seen here hold full planned (λ x h. clash h refl) (λ x h. clash h refl) sound fits f t r names (λ x h. clash h refl)
 
       pub each_one : (ns ms : Nodes) → EachGoes ns ms → EachGoes (more_nodes n ns) (more_nodes (make nothing [] []) ms)
       each_one ns ms rest = record { along = along; quiet = quiet } where

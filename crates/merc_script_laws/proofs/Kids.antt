@@ -1,25 +1,24 @@
 -- The rights of a conjunct: to own cells of the fork, or of those that its parent holds.
-use Rattle.std.proofs.Common.{◌≡◌, ◌⊎◌, inl, inr, ℕ, zero, suc, ◌+◌, ◌≤◌, ◌<◌, Bool, true, false, not, ◌==◌, ◌&&◌, if◌then◌else◌, nat_eq, List, [], ◌∷◌, ◌++◌, length, map, filter, Option, Some, None, refl, ap, sym, subst, ◌∙◌, arith}
+use Rattle.std.proofs.Common.{◌≡◌, ◌⊎◌, inl, inr, ℕ, ◌+◌, ◌≤◌, ◌<◌, Bool, true, false, ◌==◌, if◌then◌else◌, nat_eq, List, ◌++◌, length, map, filter, Option, Some, None, refl, ap, sym, subst, ◌∙◌, arith}
 use Rattle.merc_value.specs.Value.{Value}
-use Rattle.merc_graded_tree.specs.Nodes.{Node, Nodes, outputs_of}
-use Rattle.merc_graded_tree.specs.Variables.{among, in_node, in_nodes}
+use Rattle.merc_graded_tree.specs.Nodes.{Node, Nodes}
+use Rattle.merc_graded_tree.specs.Variables.{among, in_node}
 use Rattle.merc_meaning.specs.Steps.{value_at}
 use Rattle.merc_core.specs.Rights.{has}
 use Rattle.merc_core.specs.WellFormed.{AreDistinct}
 use Rattle.merc_course.proofs.Beginnings.{beginning}
 use Rattle.merc_par_split.specs.declared.sites.CellInfo.{CellInfo}
-use Rattle.merc_par_split.specs.declared.sites.Moved.{Moved}
 use Rattle.merc_par_split.specs.declared.sites.SiteInfo.{SiteInfo}
 use Rattle.merc_par_split.specs.Rights.{Right}
-use Rattle.merc_par_split.specs.Sites.{are_for, cells_of, site_info}
+use Rattle.merc_par_split.specs.Sites.{cells_of, site_info}
 use Rattle.merc_plan.specs.Branch.{HeldWait, HeldSignal, Hold, NamedCell, names, Gift, gift_at, value_given}
-use Rattle.merc_plan.specs.Hold.{wait_for, named, own_waits, own_signals, child_for, goes_to, waits_into, signals_into, conjunct_hold}
+use Rattle.merc_plan.specs.Hold.{named, own_waits, own_signals, child_for, goes_to, waits_into, signals_into, conjunct_hold}
 use Rattle.merc_plan.proofs.Judging.{makes, uses}
-use Rattle.merc_plan.proofs.Sets.{clash, tell, same_number, is_same, in_either}
+use Rattle.merc_plan.proofs.Sets.{same_number, is_same, in_either}
 use Rattle.merc_script_laws.specs.Parallel.{all_outputs}
 use Rattle.merc_script_laws.proofs.Bonds.{Here, Owed, signs, Names}
-use Rattle.merc_script_laws.proofs.Members.{Member, member_left, member_right, member_either, passing, passes, made_from, is_made, numbered, is_numbered, number_in, distinct_same, distinct_passing, distinct_both, map_both}
-use Rattle.merc_script_laws.proofs.Cells.{of_info, name_of, names_distinct, name_low, name_high, same_variables, own_wait_cells, own_wait_variables, own_signal_cells, goes_there, there_goes, wait_found, finds_wait}
+use Rattle.merc_script_laws.proofs.Members.{Member, member_left, member_right, member_either, passing, passes, made_from, is_made, numbered, number_in, distinct_same, distinct_passing, distinct_both, map_both}
+use Rattle.merc_script_laws.proofs.Cells.{of_info, names_distinct, same_variables, own_wait_cells, own_wait_variables, own_signal_cells, goes_there, there_goes, wait_found, finds_wait}
 use Rattle.merc_script_laws.proofs.Sites.{Fact, fact, nth, bound_by, waited_by, waited_distinct, waited_bound}
 
 abbrev pub signal_cells : Hold → List ℕ
@@ -179,8 +178,10 @@ module _ (goals : Nodes) (outputs : List ℕ) (w s : List Right) (hold : Hold) w
             })
         side (inr h) =
             let p = passing (λ (right : HeldWait). goes_to k (child_for false right.variable info.moves)) r hold.waits h in
-            inr (subst (λ z. child_for false z info.moves ≡ Some k) v (goes_there k (child_for false r.variable info.moves) p.1),
-            record { right = r; found = finds_wait x r hold.waits names.wait_variables p.0 v; at = at; gives = gives })
+            inr (
+              subst (λ z. child_for false z info.moves ≡ Some k) v (goes_there k (child_for false r.variable info.moves) p.1),
+              record { right = r; found = finds_wait x r hold.waits names.wait_variables p.0 v; at = at; gives = gives },
+            )
 
     pub sign_cases : (x c : ℕ) → has c (signs x kid) ≡ true → OwnSign x c ⊎ ((child_for true x info.moves ≡ Some k) × (has c (signs x hold) ≡ true))
     sign_cases x c h = on (signs_member kid x c h) where
@@ -202,7 +203,7 @@ module _ (goals : Nodes) (outputs : List ℕ) (w s : List Right) (hold : Hold) w
         let r = signs_member hold x c h in
         member_signs kid x c r.0
         (member_right r.0 (own_signals k own) (signals_into k info.moves hold.signals) (passes (λ (right : HeldSignal). goes_to k (child_for true right.variable info.moves)) r.0 hold.signals r.1.0
-          (there_goes k (child_for true r.0.variable info.moves) (subst (λ z. child_for true z info.moves ≡ Some k) (sym r.1.1.0) e))))
+        (there_goes k (child_for true r.0.variable info.moves) (subst (λ z. child_for true z info.moves ≡ Some k) (sym r.1.1.0) e))))
         r.1.1.0 r.1.1.1
 
     -- Where what is bound before is not bound by conjuncts.
@@ -219,10 +220,10 @@ module _ (goals : Nodes) (outputs : List ℕ) (w s : List Right) (hold : Hold) w
           (subst AreDistinct (sym (own_wait_variables k given own ∙ own_waited)) (waited_distinct 1 k outputs goals distinct))
           (distinct_passing (λ (right : HeldWait). right.variable) (λ (right : HeldWait). goes_to k (child_for false right.variable info.moves)) hold.waits names.wait_variables)
           (λ x h i.
-            let r = numbered (λ (right : HeldWait). right.variable) x (waits_into k info.moves hold.waits) i in
-            let m = (passing (λ (right : HeldWait). goes_to k (child_for false right.variable info.moves)) r.0 hold.waits r.1.0).0 in
-            apart x r.0.cell r.0.value (subst (λ z. Owed hold z r.0.cell r.0.value) r.1.1 (member_owed hold r.0 names.wait_variables m))
-            (waited_bound 1 k outputs goals x (subst (λ l. has x l ≡ true) (own_wait_variables k given own ∙ own_waited) h))))
+          let r = numbered (λ (right : HeldWait). right.variable) x (waits_into k info.moves hold.waits) i in
+          let m = (passing (λ (right : HeldWait). goes_to k (child_for false right.variable info.moves)) r.0 hold.waits r.1.0).0 in
+          apart x r.0.cell r.0.value (subst (λ z. Owed hold z r.0.cell r.0.value) r.1.1 (member_owed hold r.0 names.wait_variables m))
+          (waited_bound 1 k outputs goals x (subst (λ l. has x l ≡ true) (own_wait_variables k given own ∙ own_waited) h))))
 
       pub own_owed : (one : NamedCell) → Member one own → one.consumer ≡ k → Owed kid one.variable one.cell (value_given (gift_at one.cell given))
       own_owed one m e = member_owed kid (wait_of one) variables_distinct (member_left (wait_of one) (own_waits k given own) (waits_into k info.moves hold.waits) (is_own_wait one m e))
@@ -231,7 +232,7 @@ module _ (goals : Nodes) (outputs : List ℕ) (w s : List Right) (hold : Hold) w
       moved_owed x c o e h =
           let r = owed_member hold x c o h in
           let m = member_right r.0 (own_waits k given own) (waits_into k info.moves hold.waits) (passes (λ (right : HeldWait). goes_to k (child_for false right.variable info.moves)) r.0 hold.waits r.1.0
-            (there_goes k (child_for false r.0.variable info.moves) (subst (λ z. child_for false z info.moves ≡ Some k) (sym r.1.1.0) e))) in
+          (there_goes k (child_for false r.0.variable info.moves) (subst (λ z. child_for false z info.moves ≡ Some k) (sym r.1.1.0) e))) in
           record { right = r.0; found = finds_wait x r.0 kid.waits variables_distinct m r.1.1.0; at = r.1.1.1.0; gives = r.1.1.1.1 }
 
       into_signal : (c : ℕ) → has c (map (λ (right : HeldSignal). right.cell) (signals_into k info.moves hold.signals)) ≡ true → (r : HeldSignal) × (Member r hold.signals × (r.cell ≡ c))
@@ -263,12 +264,12 @@ module _ (goals : Nodes) (outputs : List ℕ) (w s : List Right) (hold : Hold) w
       pub signal_sides : (c : ℕ) → has c (signal_cells kid) ≡ true → Either (makes k own) (map (λ (right : HeldSignal). right.cell) (signals_into k info.moves hold.signals)) c
       signal_sides c h = in_either c (makes k own) (map (λ (right : HeldSignal). right.cell) (signals_into k info.moves hold.signals))
           (subst (λ l. has c l ≡ true) (map_both (λ (right : HeldSignal). right.cell) (own_signals k own) (signals_into k info.moves hold.signals)
-            ∙ ap (λ l. l ++ map (λ (right : HeldSignal). right.cell) (signals_into k info.moves hold.signals)) (own_signal_cells k own)) h)
+          ∙ ap (λ l. l ++ map (λ (right : HeldSignal). right.cell) (signals_into k info.moves hold.signals)) (own_signal_cells k own)) h)
 
       pub wait_sides : (c : ℕ) → has c (wait_cells kid) ≡ true → Either (uses k own) (map (λ (right : HeldWait). right.cell) (waits_into k info.moves hold.waits)) c
       wait_sides c h = in_either c (uses k own) (map (λ (right : HeldWait). right.cell) (waits_into k info.moves hold.waits))
           (subst (λ l. has c l ≡ true) (map_both (λ (right : HeldWait). right.cell) (own_waits k given own) (waits_into k info.moves hold.waits)
-            ∙ ap (λ l. l ++ map (λ (right : HeldWait). right.cell) (waits_into k info.moves hold.waits)) (own_wait_cells k given own)) h)
+          ∙ ap (λ l. l ++ map (λ (right : HeldWait). right.cell) (waits_into k info.moves hold.waits)) (own_wait_cells k given own)) h)
 
       low_of : (c : ℕ) → Either (makes k own) (map (λ (right : HeldSignal). right.cell) (signals_into k info.moves hold.signals)) c → c < hold.next + length cells
       low_of c (inl h) = let q = made_own c h in let l = own_high q.0 q.1.0 in let e = q.1.1.1 in omega (arith, l, e)
@@ -315,14 +316,14 @@ module _ (goals : Nodes) (outputs : List ℕ) (w s : List Right) (hold : Hold) w
             (distinct_passing (λ (z : NamedCell). z.cell) (λ (z : NamedCell). nat_eq z.producer k) own (names_distinct hold.next cells))
             (distinct_passing (λ (right : HeldSignal). right.cell) (λ (right : HeldSignal). goes_to k (child_for true right.variable info.moves)) hold.signals names.cells)
             (λ c h i. let p = made_own c h in let q = into_signal c i in
-              let a = own_low p.0 p.1.0 in let d = low_signals hold names q.0 q.1.0 in let e = p.1.1.1 in let f = q.1.1 in absurd (omega (arith, a, d, e, f))));
+            let a = own_low p.0 p.1.0 in let d = low_signals hold names q.0 q.1.0 in let e = p.1.1.1 in let f = q.1.1 in absurd (omega (arith, a, d, e, f))));
         waits = subst AreDistinct (sym (map_both (λ (right : HeldWait). right.cell) (own_waits k given own) (waits_into k info.moves hold.waits)
             ∙ ap (λ l. l ++ map (λ (right : HeldWait). right.cell) (waits_into k info.moves hold.waits)) (own_wait_cells k given own)))
             (distinct_both (uses k own) (map (λ (right : HeldWait). right.cell) (waits_into k info.moves hold.waits))
             (distinct_passing (λ (z : NamedCell). z.cell) (λ (z : NamedCell). nat_eq z.consumer k) own (names_distinct hold.next cells))
             (distinct_passing (λ (right : HeldWait). right.cell) (λ (right : HeldWait). goes_to k (child_for false right.variable info.moves)) hold.waits names.wait_cells)
             (λ c h i. let p = used_own c h in let q = into_wait c i in
-              let a = own_low p.0 p.1.0 in let d = low_waits hold names q.0 q.1.0 in let e = p.1.1.1 in let f = q.1.1 in absurd (omega (arith, a, d, e, f))));
+            let a = own_low p.0 p.1.0 in let d = low_waits hold names q.0 q.1.0 in let e = p.1.1.1 in let f = q.1.1 in absurd (omega (arith, a, d, e, f))));
         variables = variables_distinct;
         kinds = λ c h i. kinds_of l c (signal_sides c h) (wait_sides c i);
         low = λ c h. low_of c (signal_sides c h);

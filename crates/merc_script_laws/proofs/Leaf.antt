@@ -72,6 +72,7 @@ moves_env b here later outs hold e f older fresh = record {
   names = λ n. names_env hold e (λ x c o p. older x (f.known x c o p)) n;
   signed = λ x c h. h;
   still = λ h. refl;
+  unsigned = λ x h. refl;
 }
 
 pub moves_none : (here : Set) (later : ℕ → Bool) (outs : List ℕ) (hold : Hold) → ((x : ℕ) → among outs x ≡ true → ⊥) → Moves here [] [] later outs hold hold
@@ -85,6 +86,7 @@ moves_none here later outs hold none = record {
   names = λ n. n;
   signed = λ x c h. h;
   still = λ h. refl;
+  unsigned = λ x h. refl;
 }
 
 -- goals that are entered once at most

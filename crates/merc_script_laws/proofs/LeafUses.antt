@@ -39,7 +39,7 @@ match_self hold = record { same = λ x v h. h; comes = λ x c o h p. clash h ref
 
 pub moves_later : (here : Set) (l1 l2 : ℕ → Bool) (outs : List ℕ) (hold hold' : Hold) → Moves here [] [] l1 outs hold hold' → Moves here [] [] l2 outs hold hold'
 moves_later here l1 l2 outs hold hold' m =
-    record { keep = m.keep; fresh = m.fresh; got = λ x c o h l p. clash h refl; rest = m.rest; old = m.old; next = m.next; names = m.names; signed = m.signed; still = m.still }
+    record { keep = m.keep; fresh = m.fresh; got = λ x c o h l p. clash h refl; rest = m.rest; old = m.old; next = m.next; names = m.names; signed = m.signed; still = m.still; unsigned = m.unsigned }
 
 -- Given are the module, the types of the variables, and what type variables stand for.
 module _ (known : Module) (types i : Instance) where

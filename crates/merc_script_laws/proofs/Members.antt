@@ -1,9 +1,9 @@
 -- Members of lists, and lists whose members are told apart by number.
-use Rattle.std.proofs.Common.{◌≡◌, ◌⊎◌, inl, inr, ℕ, zero, suc, ◌+◌, Bool, true, false, if◌then◌else◌, nat_eq, List, [], ◌∷◌, ◌++◌, length, map, filter, flat_map, refl, ap, sym, subst, ◌∙◌, arith}
+use Rattle.std.proofs.Common.{◌≡◌, ◌⊎◌, inl, inr, ℕ, suc, ◌+◌, Bool, true, false, if◌then◌else◌, List, [], ◌∷◌, ◌++◌, length, map, filter, flat_map, refl, ap, sym, subst, ◌∙◌, arith}
 use Rattle.std.specs.List.{AllByRecursion}
 use Rattle.merc_core.specs.Rights.{has}
 use Rattle.merc_core.specs.WellFormed.{AreDistinct}
-use Rattle.merc_plan.proofs.Sets.{clash, tell, absent, first_in, rest_in, or_in, front_or, in_left, in_right, in_either}
+use Rattle.merc_plan.proofs.Sets.{clash, absent, first_in, rest_in, or_in, front_or, in_left, in_right, in_either}
 
 -- it stands in a list
 abbrev pub Member : {A : Type 0} → A → List A → Type 0

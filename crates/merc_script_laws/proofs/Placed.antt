@@ -1,5 +1,5 @@
 -- What occurs in a goal of the split tree: what occurs in the goal that it is made of.
-use Rattle.std.proofs.Common.{◌≡◌, ◌⊎◌, inl, inr, ℕ, suc, ◌+◌, Bool, true, false, not, ◌==◌, ◌||◌, ◌&&◌, if◌then◌else◌, List, [], ◌∷◌, ◌++◌, map, filter, flat_map, Option, Some, None, refl, ap, sym, ◌∙◌, subst}
+use Rattle.std.proofs.Common.{◌≡◌, ◌⊎◌, inl, inr, ℕ, suc, ◌+◌, Bool, true, false, not, ◌==◌, ◌||◌, ◌&&◌, if◌then◌else◌, List, [], ◌∷◌, ◌++◌, map, flat_map, Option, Some, refl, sym, subst}
 use Rattle.merc_base.specs.declared.category.Category.{Category}
 use Rattle.merc_base.specs.declared.place.Span.{Span}
 use Rattle.merc_tree.specs.declared.declarations.ModeDecl.{ModeDecl}
@@ -9,9 +9,9 @@ use Rattle.merc_graded_tree.specs.Variables.{among, in_goal, in_node, in_nodes, 
 use Rattle.merc_order.specs.Bound.{Bound, with}
 use Rattle.merc_order_laws.specs.Bindings.{Variables}
 use Rattle.merc_order_laws.specs.GoodTree.{GoodNode, GoodGoal, GoodNodes, GoodDisjuncts, GoodArms}
-use Rattle.merc_order_laws.proofs.Facts.{clash, or_left, or_right, or_cases, either_way, same_bool}
+use Rattle.merc_order_laws.proofs.Facts.{clash, or_left, or_right, or_cases, same_bool}
 use Rattle.merc_par_split.specs.Forks.{forks}
-use Rattle.merc_par_split.specs.Rights.{Right, right_to, those, used_in, unused_in, passed_by, bound_in, unbound_in, wait_at, signal_at, in_place_of, between, around, ahead_of, signals_of}
+use Rattle.merc_par_split.specs.Rights.{Right, right_to, those, used_in, unused_in, passed_by, bound_in, unbound_in, wait_at, signal_at, between, around, ahead_of, signals_of}
 use Rattle.merc_par_split.specs.Sites.{are_for}
 use Rattle.merc_par_split.specs.Split.{may_fail, nothing, moves_in, placed, placed_goal, placed_in_turn, placed_conjuncts, placed_arms, placed_alone}
 use Rattle.merc_script_laws.proofs.RightLists.{right_first, those_in, equal_is}
@@ -87,6 +87,7 @@ in_ahead w n x h = on (in_between [] n (map (wait_at (span_of n)) w) x h) where
     | inl j ↦ same_for x r v (one_among x r.variable j)
     | inr j ↦ or_right (r.variable == x) (are_for v x) (waits v j)
   ]
+
   on : (are_for [] x ≡ true) ⊎ ((in_node n x ≡ true) ⊎ (in_nodes (nodes_of (map (wait_at (span_of n)) w)) x ≡ true)) → (in_node n x ≡ true) ⊎ (are_for w x ≡ true)
   on (inl k) = clash k refl
   on (inr (inl k)) = inl k
@@ -130,64 +131,75 @@ module _ (modes : ℕ → List ModeDecl) where
     in_split_goal (Conjunction Sequential ns) outs out b occur good site later w s category span x h = in_split_turn ns out b good.0 site later w s x h
     in_split_goal (Conjunction (Parallel unknown) ns) outs out b occur good site later w s category span x h = on (in_between (those (λ variable. not (moves_in later ns variable)) w) whole (map (λ variable. wait_at span (right_to 0 variable)) outs) x h)
         (λ k. in_split_conjuncts ns out b good.0 (suc site) 1 outs (those (moves_in later ns) w) s [] x k) where
-      whole : Node
-      whole = node (Conjunction (Parallel (Some (record { number = site }))) (placed_conjuncts (suc site) 1 outs (those (moves_in later ns) w) s [] ns)) outs category span
-      on : (are_for (those (λ variable. not (moves_in later ns variable)) w) x ≡ true) ⊎ ((in_node whole x ≡ true) ⊎ (in_nodes (nodes_of (map (λ variable. wait_at span (right_to 0 variable)) outs)) x ≡ true))
-          → (in_node whole x ≡ true → in_nodes ns x ≡ true) → Or x (in_nodes ns x ≡ true) w s
-      on (inl k) rec = inr (inl (sub_those (λ variable. not (moves_in later ns variable)) w x k))
-      on (inr (inl k)) rec = inl (rec k)
-      on (inr (inr k)) rec = inl (occur x (in_output_waits span outs x k))
+          whole : Node
+          whole = node (Conjunction (Parallel (Some (record { number = site }))) (placed_conjuncts (suc site) 1 outs (those (moves_in later ns) w) s [] ns)) outs category span
+
+          on : (are_for (those (λ variable. not (moves_in later ns variable)) w) x ≡ true) ⊎ ((in_node whole x ≡ true) ⊎ (in_nodes (nodes_of (map (λ variable. wait_at span (right_to 0 variable)) outs)) x ≡ true))
+              → (in_node whole x ≡ true → in_nodes ns x ≡ true) → Or x (in_nodes ns x ≡ true) w s
+          on (inl k) rec = inr (inl (sub_those (λ variable. not (moves_in later ns variable)) w x k))
+          on (inr (inl k)) rec = inl (rec k)
+          on (inr (inr k)) rec = inl (occur x (in_output_waits span outs x k))
     in_split_goal (Disjunction ns) outs out b occur good site later w s category span x h =
         or_more x (in_nodes (placed_alone site ns) x ≡ true) (in_nodes ns x ≡ true) w w s s (λ k. in_split_alone ns out b good.0 site x k) (λ k. k) (λ k. k) (in_around w s (node (Disjunction (placed_alone site ns)) outs category span) x h)
     in_split_goal (Switch y arms) outs out b occur good site later w s category span x h =
         on (in_around (those (λ other. other == y) w) [] (node (Switch y (placed_arms site later (those (λ other. not (other == y)) w) s arms)) outs category span) x h)
         (λ k. in_split_arms arms (with out (among (y ∷ []))) b good.1 site later (those (λ other. not (other == y)) w) s x k) where
-      rest : List Right
-      rest = those (λ other. not (other == y)) w
-      on : Or x (in_goal (Switch y (placed_arms site later rest s arms)) x ≡ true) (those (λ other. other == y) w) [] → (in_arms (placed_arms site later rest s arms) x ≡ true → Or x (in_arms arms x ≡ true) rest s)
-          → Or x (((x == y) || in_arms arms x) ≡ true) w s
-      on (inr (inl k)) rec = inr (inl (sub_those (λ other. other == y) w x k))
-      on (inr (inr k)) rec = clash k refl
-      on (inl k) rec = elim (or_cases (x == y) (in_arms (placed_arms site later rest s arms) x) k) as (λ _. Or x (((x == y) || in_arms arms x) ≡ true) w s) [
-        | inl j ↦ inl (or_left (x == y) (in_arms arms x) j)
-        | inr j ↦ or_more x (in_arms arms x ≡ true) (((x == y) || in_arms arms x) ≡ true) rest w s s (λ a. or_right (x == y) (in_arms arms x) a) (sub_those (λ other. not (other == y)) w x) (λ a. a) (rec j)
-      ]
+          rest : List Right
+          rest = those (λ other. not (other == y)) w
+
+          on : Or x (in_goal (Switch y (placed_arms site later rest s arms)) x ≡ true) (those (λ other. other == y) w) [] → (in_arms (placed_arms site later rest s arms) x ≡ true → Or x (in_arms arms x ≡ true) rest s)
+              → Or x (((x == y) || in_arms arms x) ≡ true) w s
+          on (inr (inl k)) rec = inr (inl (sub_those (λ other. other == y) w x k))
+          on (inr (inr k)) rec = clash k refl
+          on (inl k) rec = elim (or_cases (x == y) (in_arms (placed_arms site later rest s arms) x) k) as (λ _. Or x (((x == y) || in_arms arms x) ≡ true) w s) [
+            | inl j ↦ inl (or_left (x == y) (in_arms arms x) j)
+            | inr j ↦ or_more x (in_arms arms x ≡ true) (((x == y) || in_arms arms x) ≡ true) rest w s s (λ a. or_right (x == y) (in_arms arms x) a) (sub_those (λ other. not (other == y)) w x) (λ a. a) (rec j)
+          ]
     in_split_goal (Conditional c t e) outs out b occur good site later w s category span x h =
         on (in_around (used_in c w) [] (node (Conditional (placed site nothing [] [] c) then_part else_part) outs category span) x h)
         (λ k. in_split c (with out (with (in_node t) (in_node e))) b good.0 site nothing [] [] x k)
         (λ k. in_split t (with out (with (in_node c) (in_node e))) (with b (among (outputs_of c))) good.2 (site + forks c) later (used_in t (unused_in c w)) (bound_in t s) x k)
         (λ k. in_split e (with out (with (in_node c) (in_node t))) b good.4 (site + forks c + forks t) later (used_in e (unused_in c w)) (bound_in e s) x k) where
-      inner : List Right
-      inner = unused_in c w
-      then_part : Node
-      then_part = ahead_of (placed (site + forks c) later (used_in t inner) (bound_in t s) t) (passed_by later t inner)
-      else_part : Node
-      else_part = ahead_of (placed (site + forks c + forks t) later (used_in e inner) (bound_in e s) e) (passed_by later e inner)
-      All : Bool
-      All = in_node c x || (in_node t x || in_node e x)
-      below : (p : ℕ → Bool) → are_for (those p inner) x ≡ true → are_for w x ≡ true
-      below p k = sub_those (λ variable. not (in_node c variable)) w x (sub_those p inner x k)
-      Then : Type 0
-      Then = in_node (placed (site + forks c) later (used_in t inner) (bound_in t s) t) x ≡ true → Or x (in_node t x ≡ true) (used_in t inner) (bound_in t s)
-      Else : Type 0
-      Else = in_node (placed (site + forks c + forks t) later (used_in e inner) (bound_in e s) e) x ≡ true → Or x (in_node e x ≡ true) (used_in e inner) (bound_in e s)
-      from_then : Then → (in_node (placed (site + forks c) later (used_in t inner) (bound_in t s) t) x ≡ true) ⊎ (are_for (passed_by later t inner) x ≡ true) → Or x (All ≡ true) w s
-      from_then rec (inl k) = or_more x (in_node t x ≡ true) (All ≡ true) (used_in t inner) w (bound_in t s) s (λ a. or_right (in_node c x) (in_node t x || in_node e x) (or_left (in_node t x) (in_node e x) a)) (below (in_node t)) (sub_those (among (outputs_of t)) s x) (rec k)
-      from_then rec (inr k) = inr (inl (below (λ variable. later variable && not (in_node t variable)) k))
-      from_else : Else → (in_node (placed (site + forks c + forks t) later (used_in e inner) (bound_in e s) e) x ≡ true) ⊎ (are_for (passed_by later e inner) x ≡ true) → Or x (All ≡ true) w s
-      from_else rec (inl k) = or_more x (in_node e x ≡ true) (All ≡ true) (used_in e inner) w (bound_in e s) s (λ a. or_right (in_node c x) (in_node t x || in_node e x) (or_right (in_node t x) (in_node e x) a)) (below (in_node e)) (sub_those (among (outputs_of e)) s x) (rec k)
-      from_else rec (inr k) = inr (inl (below (λ variable. later variable && not (in_node e variable)) k))
-      on : Or x ((in_node (placed site nothing [] [] c) x || (in_node then_part x || in_node else_part x)) ≡ true) (used_in c w) []
-          → (in_node (placed site nothing [] [] c) x ≡ true → Or x (in_node c x ≡ true) [] []) → Then → Else → Or x (All ≡ true) w s
-      on (inr (inl k)) rc rt re = inr (inl (sub_those (in_node c) w x k))
-      on (inr (inr k)) rc rt re = clash k refl
-      on (inl k) rc rt re = elim (or_cases (in_node (placed site nothing [] [] c) x) (in_node then_part x || in_node else_part x) k) as (λ _. Or x (All ≡ true) w s) [
-        | inl j ↦ inl (or_left (in_node c x) (in_node t x || in_node e x) (none_for x (in_node c x ≡ true) (rc j)))
-        | inr j ↦ elim (or_cases (in_node then_part x) (in_node else_part x) j) as (λ _. Or x (All ≡ true) w s) [
-          | inl i ↦ from_then rt (in_ahead (passed_by later t inner) (placed (site + forks c) later (used_in t inner) (bound_in t s) t) x i)
-          | inr i ↦ from_else re (in_ahead (passed_by later e inner) (placed (site + forks c + forks t) later (used_in e inner) (bound_in e s) e) x i)
-        ]
-      ]
+          inner : List Right
+          inner = unused_in c w
+
+          then_part : Node
+          then_part = ahead_of (placed (site + forks c) later (used_in t inner) (bound_in t s) t) (passed_by later t inner)
+
+          else_part : Node
+          else_part = ahead_of (placed (site + forks c + forks t) later (used_in e inner) (bound_in e s) e) (passed_by later e inner)
+
+          All : Bool
+          All = in_node c x || (in_node t x || in_node e x)
+
+          below : (p : ℕ → Bool) → are_for (those p inner) x ≡ true → are_for w x ≡ true
+          below p k = sub_those (λ variable. not (in_node c variable)) w x (sub_those p inner x k)
+
+          Then : Type 0
+          Then = in_node (placed (site + forks c) later (used_in t inner) (bound_in t s) t) x ≡ true → Or x (in_node t x ≡ true) (used_in t inner) (bound_in t s)
+
+          Else : Type 0
+          Else = in_node (placed (site + forks c + forks t) later (used_in e inner) (bound_in e s) e) x ≡ true → Or x (in_node e x ≡ true) (used_in e inner) (bound_in e s)
+
+          from_then : Then → (in_node (placed (site + forks c) later (used_in t inner) (bound_in t s) t) x ≡ true) ⊎ (are_for (passed_by later t inner) x ≡ true) → Or x (All ≡ true) w s
+          from_then rec (inl k) = or_more x (in_node t x ≡ true) (All ≡ true) (used_in t inner) w (bound_in t s) s (λ a. or_right (in_node c x) (in_node t x || in_node e x) (or_left (in_node t x) (in_node e x) a)) (below (in_node t)) (sub_those (among (outputs_of t)) s x) (rec k)
+          from_then rec (inr k) = inr (inl (below (λ variable. later variable && not (in_node t variable)) k))
+
+          from_else : Else → (in_node (placed (site + forks c + forks t) later (used_in e inner) (bound_in e s) e) x ≡ true) ⊎ (are_for (passed_by later e inner) x ≡ true) → Or x (All ≡ true) w s
+          from_else rec (inl k) = or_more x (in_node e x ≡ true) (All ≡ true) (used_in e inner) w (bound_in e s) s (λ a. or_right (in_node c x) (in_node t x || in_node e x) (or_right (in_node t x) (in_node e x) a)) (below (in_node e)) (sub_those (among (outputs_of e)) s x) (rec k)
+          from_else rec (inr k) = inr (inl (below (λ variable. later variable && not (in_node e variable)) k))
+
+          on : Or x ((in_node (placed site nothing [] [] c) x || (in_node then_part x || in_node else_part x)) ≡ true) (used_in c w) []
+              → (in_node (placed site nothing [] [] c) x ≡ true → Or x (in_node c x ≡ true) [] []) → Then → Else → Or x (All ≡ true) w s
+          on (inr (inl k)) rc rt re = inr (inl (sub_those (in_node c) w x k))
+          on (inr (inr k)) rc rt re = clash k refl
+          on (inl k) rc rt re = elim (or_cases (in_node (placed site nothing [] [] c) x) (in_node then_part x || in_node else_part x) k) as (λ _. Or x (All ≡ true) w s) [
+            | inl j ↦ inl (or_left (in_node c x) (in_node t x || in_node e x) (none_for x (in_node c x ≡ true) (rc j)))
+            | inr j ↦ elim (or_cases (in_node then_part x) (in_node else_part x) j) as (λ _. Or x (All ≡ true) w s) [
+              | inl i ↦ from_then rt (in_ahead (passed_by later t inner) (placed (site + forks c) later (used_in t inner) (bound_in t s) t) x i)
+              | inr i ↦ from_else re (in_ahead (passed_by later e inner) (placed (site + forks c + forks t) later (used_in e inner) (bound_in e s) e) x i)
+            ]
+          ]
     in_split_goal (Negation n) outs out b occur good site later w s category span x h =
         or_more x (in_node (placed site nothing [] [] n) x ≡ true) (in_node n x ≡ true) w w s s (λ k. none_for x (in_node n x ≡ true) (in_split n out b good.0 site nothing [] [] x k)) (λ k. k) (λ k. k)
         (in_around w s (node (Negation (placed site nothing [] [] n)) outs category span) x h)
@@ -231,18 +243,22 @@ module _ (modes : ℕ → List ModeDecl) where
     in_split_arms no_arms out b good site later w s x h = clash h refl
     in_split_arms (more_arms symbol n arms) out b good site later w s x h = on (or_cases (in_node (ahead_of body (passed_by later n w)) x) (in_arms rest x) h)
         (λ k. in_split n out b good.0 site later (used_in n w) (bound_in n s) x k) (λ k. in_split_arms arms out b good.1 (site + forks n) later w s x k) where
-      body : Node
-      body = placed site later (used_in n w) (bound_in n s) n
-      rest : Arms
-      rest = placed_arms (site + forks n) later w s arms
-      First : Type 0
-      First = in_node body x ≡ true → Or x (in_node n x ≡ true) (used_in n w) (bound_in n s)
-      first : First → (in_node body x ≡ true) ⊎ (are_for (passed_by later n w) x ≡ true) → Or x ((in_node n x || in_arms arms x) ≡ true) w s
-      first rec (inl k) = or_more x (in_node n x ≡ true) ((in_node n x || in_arms arms x) ≡ true) (used_in n w) w (bound_in n s) s (λ a. or_left (in_node n x) (in_arms arms x) a) (sub_those (in_node n) w x) (sub_those (among (outputs_of n)) s x) (rec k)
-      first rec (inr k) = inr (inl (sub_those (λ variable. later variable && not (in_node n variable)) w x k))
-      on : (in_node (ahead_of body (passed_by later n w)) x ≡ true) ⊎ (in_arms rest x ≡ true) → First → (in_arms rest x ≡ true → Or x (in_arms arms x ≡ true) w s) → Or x ((in_node n x || in_arms arms x) ≡ true) w s
-      on (inl k) rec more = first rec (in_ahead (passed_by later n w) body x k)
-      on (inr k) rec more = or_more x (in_arms arms x ≡ true) ((in_node n x || in_arms arms x) ≡ true) w w s s (λ a. or_right (in_node n x) (in_arms arms x) a) (λ a. a) (λ a. a) (more k)
+          body : Node
+          body = placed site later (used_in n w) (bound_in n s) n
+
+          rest : Arms
+          rest = placed_arms (site + forks n) later w s arms
+
+          First : Type 0
+          First = in_node body x ≡ true → Or x (in_node n x ≡ true) (used_in n w) (bound_in n s)
+
+          first : First → (in_node body x ≡ true) ⊎ (are_for (passed_by later n w) x ≡ true) → Or x ((in_node n x || in_arms arms x) ≡ true) w s
+          first rec (inl k) = or_more x (in_node n x ≡ true) ((in_node n x || in_arms arms x) ≡ true) (used_in n w) w (bound_in n s) s (λ a. or_left (in_node n x) (in_arms arms x) a) (sub_those (in_node n) w x) (sub_those (among (outputs_of n)) s x) (rec k)
+          first rec (inr k) = inr (inl (sub_those (λ variable. later variable && not (in_node n variable)) w x k))
+
+          on : (in_node (ahead_of body (passed_by later n w)) x ≡ true) ⊎ (in_arms rest x ≡ true) → First → (in_arms rest x ≡ true → Or x (in_arms arms x ≡ true) w s) → Or x ((in_node n x || in_arms arms x) ≡ true) w s
+          on (inl k) rec more = first rec (in_ahead (passed_by later n w) body x k)
+          on (inr k) rec more = or_more x (in_arms arms x ≡ true) ((in_node n x || in_arms arms x) ≡ true) w w s s (λ a. or_right (in_node n x) (in_arms arms x) a) (λ a. a) (λ a. a) (more k)
 
 -- what occurs in a goal occurs in the goal that is made of it
 mutual
@@ -330,7 +346,7 @@ pub in_placed : (modes : ℕ → List ModeDecl) (n : Node) (out : Variables) (b 
 in_placed modes (node g outs category span) out b good site later w s used within x =
     let n : Node = node g outs category span in
     same_bool (in_node (placed site later w s n) x) (in_node n x) (λ h. on (in_split modes n out b good site later w s x h)) (λ h. split_in n site later w s x h) where
-  on : Or x (in_goal g x ≡ true) w s → in_goal g x ≡ true
-  on (inl h) = h
-  on (inr (inl h)) = used x h
-  on (inr (inr h)) = good.0 x (within x h)
+      on : Or x (in_goal g x ≡ true) w s → in_goal g x ≡ true
+      on (inl h) = h
+      on (inr (inl h)) = used x h
+      on (inr (inr h)) = good.0 x (within x h)

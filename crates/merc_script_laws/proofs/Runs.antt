@@ -59,10 +59,10 @@ module _ (known : Module) (types i : Instance) (declared : AreGoodTypes known.ty
       → ((later : ℕ → Bool) (w s : List Right) → fits later w s → Leaf known types i program calls plan split course g m outs category span)
       → Goes known types i program calls plan split course (node g outs category span) (λ later w s. around w s (node m outs category span)) fits
   goes_leaf g m outs category span fits leaf = record {
-    along = λ later w s out b seen here hold full fit all within sound there f t r names.
+    along = λ later w s out b seen here hold full fit all within sound there f t r names counted.
         let one = leaf later w s fit in
         let d = divides_first w in
-        around_along plan split course m outs category span here w w [] s s [] later hold d (divides_first s) b full (events (node_trace program calls whole full)) within
+        around_along plan split course m outs category span here w w [] s s [] later hold d (divides_first s) names counted (λ x h. refl) b full (events (node_trace program calls whole full)) within
         (once_same (answers_once outs category) (goal_trace program calls g full)) (waitable hold names) f f.once t
         (λ hold1 p.
         let a = one.along out b seen (here_or here w) hold1 full sound there (fit_behind b here w hold hold1 f p) (match_waited b here w w [] hold hold1 d.parts d.in1 d.in2 d.apart full f t p)

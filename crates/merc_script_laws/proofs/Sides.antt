@@ -25,7 +25,7 @@ use Rattle.merc_plan.proofs.Judging.{flat, Sure, Keeps}
 use Rattle.merc_plan.proofs.Likes.{like_each, like_once, like_more, each_all, each_answer}
 use Rattle.merc_plan.proofs.Flats.{flat_each, sure_each, flat_once, sure_once}
 use Rattle.merc_plan.proofs.Holds.{keeps_each, keeps_once, keeps_end}
-use Rattle.merc_script_laws.proofs.Bonds.{Set, Here, signs, rights_for, Within, AllUsed, Fit, After, Match, Names, Moves, Ends, here_or, Parts, Used, Rightful}
+use Rattle.merc_script_laws.proofs.Bonds.{Set, Counted, Here, signs, rights_for, Within, AllUsed, Fit, After, Match, Names, Moves, Ends, here_or, Parts, Used, Rightful}
 use Rattle.merc_script_laws.proofs.RightLists.{variables_of, not_not, not_for, those_in, those_parts}
 use Rattle.merc_script_laws.proofs.Steps.{always, unused, Waits, IsIn, AreApart, not_in_more, moves_waited, after_waited, after_same}
 use Rattle.merc_script_laws.proofs.Holding.{Waitable, waitable, Sends, sends_none, moves_sent}
@@ -85,16 +85,16 @@ module _ (plan : Plan) (program : Program) (call : Procedure → Hold → Branch
       abbrev Inside : Env → Hold → Hold → Env → Type 0
       Inside full hold1 = Ends full (here_or here w1) w2 s2 later outs hold1
 
-      moves_inside : (hold1 e e1 : Hold) → Moves here w1 [] always [] hold hold1 → Moves (here_or here w1) w2 s2 later outs hold1 e → Sends e e1 → (((x : ℕ) → are_for s1 x ≡ false) → e1.signals ≡ e.signals)
+      moves_inside : (hold1 e e1 : Hold) → Moves here w1 [] always [] hold hold1 → Moves (here_or here w1) w2 s2 later outs hold1 e → Sends e e1 → (((x : ℕ) → are_for s1 x ≡ false) → e1.signals ≡ e.signals) → ((x : ℕ) → are_for s1 x ≡ false → signs x e1 ≡ signs x e)
           → Moves here w s later outs hold e1
-      moves_inside hold1 e e1 m n p still =
-          moves_sent here w s s2 later outs hold e e1 (λ k. (none_of s s2 sd.in2 k, still (none_of s s1 sd.in1 k)))
+      moves_inside hold1 e e1 m n p still others =
+          moves_sent here w s s2 later outs hold e e1 (λ k. (none_of s s2 sd.in2 k, still (none_of s s1 sd.in1 k))) (λ x h. (not_in_more x s2 s sd.in2 h, others x (not_in_more x s1 s sd.in1 h)))
           (moves_waited_by m n) p where
             moves_waited_by : Moves here w1 [] always [] hold hold1 → Moves (here_or here w1) w2 s2 later outs hold1 e → Moves here w s2 later outs hold e
             moves_waited_by m n = moves_waited (λ x. false) here w w1 w2 hold hold1 wd.parts wd.in1 wd.in2 wd.apart s2 later outs e m n
 
-      ends_inside : (full : Env) (hold1 e e1 : Hold) (f : Env) → Moves here w1 [] always [] hold hold1 → Sends e e1 → (((x : ℕ) → are_for s1 x ≡ false) → e1.signals ≡ e.signals) → Inside full hold1 e f → Answers full e1 f
-      ends_inside full hold1 e e1 f m p still k = (moves_inside hold1 e e1 m k.0 p still, ((λ x v h. k.1.0 x v (sym (ap (λ n. value_at n x) p.env) ∙ h)), k.1.1))
+      ends_inside : (full : Env) (hold1 e e1 : Hold) (f : Env) → Moves here w1 [] always [] hold hold1 → Sends e e1 → (((x : ℕ) → are_for s1 x ≡ false) → e1.signals ≡ e.signals) → ((x : ℕ) → are_for s1 x ≡ false → signs x e1 ≡ signs x e) → Inside full hold1 e f → Answers full e1 f
+      ends_inside full hold1 e e1 f m p still others k = (moves_inside hold1 e e1 m k.0 p still others, ((λ x v h. k.1.0 x v (sym (ap (λ n. value_at n x) p.env) ∙ h)), k.1.1))
 
       wrapped : (full : Env) (u : Flat Env) → once_if once u ≡ u → (t : BranchCourse) → Like (Answers full) (flat t) u × Sure t → Like (Answers full) (flat (c_once once t)) u × Sure (c_once once t)
       wrapped full u o t h = (
@@ -103,9 +103,9 @@ module _ (plan : Plan) (program : Program) (call : Procedure → Hold → Branch
       )
 
       -- signals behind change neither steps nor answers
-      signalled : (full : Env) (u : Flat Env) → Within s outs → (hold1 : Hold) → Moves here w1 [] always [] hold hold1 → Like (Inside full hold1) (flat (course hold1)) u × Sure (course hold1)
+      signalled : Names hold → Counted s hold → ((x : ℕ) → are_for s1 x ≡ true → rights_for x s1 ≡ rights_for x s) → (full : Env) (u : Flat Env) → Within s outs → (hold1 : Hold) → Moves here w1 [] always [] hold hold1 → Like (Inside full hold1) (flat (course hold1)) u × Sure (course hold1)
           → Like (Answers full) (flat (then_signals s1 hold1)) u × Sure (then_signals s1 hold1)
-      signalled full u within hold1 m a = (
+      signalled names counted all full u within hold1 m a = (
         subst (λ z. Like (Answers full) z u) (sym (flat_each (λ e. sending plan program call span s1 e) (course hold1) all_sure a.1))
             (subst (λ z. Like (Answers full) (each (λ e. flat (sending plan program call span s1 e)) (flat (course hold1))) z) (each_answer u)
             (like_each (Inside full hold1) (Answers full) (λ e. flat (sending plan program call span s1 e)) (λ f. Answer f Done) one (flat (course hold1)) u a.0)),
@@ -116,27 +116,28 @@ module _ (plan : Plan) (program : Program) (call : Procedure → Hold → Branch
 
         one : (e : Hold) (f : Env) → Inside full hold1 e f → Like (Answers full) (flat (sending plan program call span s1 e)) (Answer f Done)
         one e f k =
-            let g = signals_flat plan program call span s1 e (λ x h. k.0.fresh x (within x (sd.in1 x h))) in
-            subst (λ z. Like (Answers full) z (Answer f Done)) (sym g.is_flat) (ends_inside full hold1 e g.hold1 f m g.sends g.still k, tt)
+            let g = signals_flat plan program call span s1 e (k.0.names (m.names names))
+            (λ x h. ap length (all x h) ∙ counted x (sd.in1 x h) ∙ ap length (sym (k.0.unsigned x (not_for s2 x (λ j. sd.apart x h j)) ∙ m.unsigned x refl))) (λ x h. k.0.fresh x (within x (sd.in1 x h))) in
+            subst (λ z. Like (Answers full) z (Answer f Done)) (sym g.is_flat) (ends_inside full hold1 e g.hold1 f m g.sends g.still g.unsigned k, tt)
 
-      pub around_along : (b : Bound) (full : Env) (u : Flat Env) → Within s outs → once_if once u ≡ u → Waitable hold → Fit b here w hold → AreDistinct (variables_of w1) → Match w hold full
+      pub around_along : Names hold → Counted s hold → ((x : ℕ) → are_for s1 x ≡ true → rights_for x s1 ≡ rights_for x s) → (b : Bound) (full : Env) (u : Flat Env) → Within s outs → once_if once u ≡ u → Waitable hold → Fit b here w hold → AreDistinct (variables_of w1) → Match w hold full
           → ((hold1 : Hold) → Waits here w1 hold hold1 → Like (Inside full hold1) (flat (course hold1)) u × Sure (course hold1))
           → (v z : List Right) → v ≡ w1 → z ≡ s1
           → Like (Answers full) (flat (node_branch plan program call (around v z inner) hold)) u × Sure (node_branch plan program call (around v z inner) hold)
-      around_along b full u within o can f d t goes [] [] p q =
+      around_along names counted all b full u within o can f d t goes [] [] p q =
           let m = subst (λ n. Waits here n hold hold) p (waits_none here hold) in
           let a = goes hold m in
-          (like_more (Inside full hold) (Answers full) (λ e g k. ends_inside full hold e e g m.moves (sends_none e) (λ n. refl) k) (flat (course hold)) u a.0, a.1)
-      around_along b full u within o can f d t goes [] (r ∷ z) p q =
+          (like_more (Inside full hold) (Answers full) (λ e g k. ends_inside full hold e e g m.moves (sends_none e) (λ n. refl) (λ x h. refl) k) (flat (course hold)) u a.0, a.1)
+      around_along names counted all b full u within o can f d t goes [] (r ∷ z) p q =
           let m = subst (λ n. Waits here n hold hold) p (waits_none here hold) in
           subst (λ n. Like (Answers full) (flat (c_once once (then_signals n hold))) u × Sure (c_once once (then_signals n hold))) (sym q)
-          (wrapped full u o (then_signals s1 hold) (signalled full u within hold m.moves (goes hold m)))
-      around_along b full u within o can f d t goes (r ∷ v) z p q =
+          (wrapped full u o (then_signals s1 hold) (signalled names counted all full u within hold m.moves (goes hold m)))
+      around_along names counted all b full u within o can f d t goes (r ∷ v) z p q =
           let f1 = subst (λ n. Fit b here n hold) (sym p) (fit_less b here w w1 hold wd.in1 d f) in
           let t1 = subst (λ n. Match n hold full) (sym p) (match_less w w1 hold full wd.in1 t) in
           let a = waits_flat plan program call span (r ∷ v) b here hold full (inner ∷ map (signal_at span) z) can f1 t1 in
           let m = subst (λ n. Waits here n hold a.hold1) p a.waits in
-          let k = subst (λ n. Like (Answers full) (flat (then_signals n a.hold1)) u × Sure (then_signals n a.hold1)) (sym q) (signalled full u within a.hold1 m.moves (goes a.hold1 m)) in
+          let k = subst (λ n. Like (Answers full) (flat (then_signals n a.hold1)) u × Sure (then_signals n a.hold1)) (sym q) (signalled names counted all full u within a.hold1 m.moves (goes a.hold1 m)) in
           wrapped full u o (waiting plan program call span (r ∷ v) (inner ∷ map (signal_at span) z) hold)
           (subst (λ y. Like (Answers full) y u) (sym a.is_flat) k.0, a.is_sure k.1)
 
@@ -187,7 +188,7 @@ module _ (plan : Plan) (program : Program) (call : Procedure → Hold → Branch
 
           results : (e1 : Hold) (g3 : List Gift) → Sent plan program call span s1 e g2 e1 g3 → Result held2 g3 e1
           results e1 g3 z = record {
-            moves = moves_inside hold1 e e1 p.moves u.moves z.sends z.still;
+            moves = moves_inside hold1 e e1 p.moves u.moves z.sends z.still z.unsigned;
             kept = λ c l h n. u.kept c (low c l) (still c h (λ x o j k. n x o (wd.in1 x j) k)) (λ x o j k. n x o (wd.in2 x j) (p.moves.old x c o k));
             gave = λ x c h k. gave x c (sd.parts x h) k;
             left = λ c l n. z.left c (λ x j k. n x (sd.in1 x j) (signs_back x c k)) ∙ u.left c (low c l) (λ x j k. n x (sd.in2 x j) (subst (λ m. has c m ≡ true) (signs_before hold1 p x) k));

@@ -1,5 +1,5 @@
 -- Which rights move into which conjuncts, and that outputs of good goals are told apart.
-use Rattle.std.proofs.Common.{◌≡◌, ◌⊎◌, inl, inr, ℕ, zero, suc, ◌+◌, ◌≤◌, ◌<◌, Bool, true, false, not, ◌==◌, ◌&&◌, ◌||◌, if◌then◌else◌, nat_eq, List, [], ◌∷◌, ◌++◌, length, map, filter, flat_map, Option, Some, None, refl, ap, sym, subst, ◌∙◌, arith}
+use Rattle.std.proofs.Common.{◌≡◌, ◌⊎◌, inl, inr, ℕ, suc, Bool, true, false, ◌==◌, if◌then◌else◌, nat_eq, List, [], ◌∷◌, ◌++◌, length, map, filter, Option, Some, None, refl, ap, sym, subst, ◌∙◌}
 use Rattle.merc_tree.specs.declared.declarations.ModeDecl.{ModeDecl}
 use Rattle.merc_graded_tree.specs.Nodes.{Node, node, Nodes, no_nodes, more_nodes, outputs_of}
 use Rattle.merc_graded_tree.specs.Variables.{among, in_node, in_nodes}
@@ -12,12 +12,12 @@ use Rattle.merc_par_split.specs.declared.sites.Moved.{Moved}
 use Rattle.merc_par_split.specs.Rights.{Right, users}
 use Rattle.merc_par_split.specs.Sites.{are_for, signal_moves, wait_moves, site_info}
 use Rattle.merc_plan.specs.Hold.{child_for}
-use Rattle.merc_plan.proofs.Sets.{clash, tell, absent, same_number, is_same, first_in, rest_in, front_or, in_left, in_right, in_either, or_either, or_left, or_right}
+use Rattle.merc_plan.proofs.Sets.{clash, tell, absent, same_number, front_or, in_either, or_left, or_right}
 use Rattle.merc_script_laws.specs.Parallel.{all_outputs}
 use Rattle.merc_script_laws.proofs.RightLists.{right_cases, right_first, right_rest}
 use Rattle.merc_script_laws.proofs.Members.{Member, member_left, member_right, member_either, passing, passes, made_from, is_made, joined_from, is_joined, has_member, member_has, distinct_both}
-use Rattle.merc_script_laws.proofs.Cells.{MoveOf, signal_move, wait_move, signal_goes, wait_goes}
-use Rattle.merc_script_laws.proofs.Sites.{among_has, has_among, nth, same_some, nth_low, later_nth, first_nth, past_nth, bound_by, one_binder, user_of, is_user, one_user}
+use Rattle.merc_script_laws.proofs.Cells.{signal_move, wait_move, signal_goes, wait_goes}
+use Rattle.merc_script_laws.proofs.Sites.{among_has, has_among, nth, same_some, later_nth, first_nth, one_binder, user_of, is_user, one_user}
 
 -- rights for a variable are among rights
 pub right_of : (w : List Right) (x : ℕ) → are_for w x ≡ true → (r : Right) × (Member r w × (r.variable ≡ x))
@@ -48,13 +48,13 @@ pub signal_move_of : (held : ℕ → Bool) (at : ℕ) (ns : Nodes) (m : Moved) �
 signal_move_of held at no_nodes m h = absurd h
 signal_move_of held at (more_nodes n ns) m h =
     on (member_either m (map (λ x. move_to true x at) (filter held (outputs_of n))) (signal_moves held (suc at) ns) h) (λ k. signal_move_of held (suc at) ns m k) where
-  on : Member m (map (λ x. move_to true x at) (filter held (outputs_of n))) ⊎ Member m (signal_moves held (suc at) ns) → (Member m (signal_moves held (suc at) ns) → SignalMove held (suc at) ns m) → SignalMove held at (more_nodes n ns) m
-  on (inl k) rec =
-      let r = made_from (λ x. move_to true x at) m (filter held (outputs_of n)) k in
-      let p = passing held r.0 (outputs_of n) r.1.0 in
-      subst (λ z. SignalMove held at (more_nodes n ns) z) (sym r.1.1)
-      (record { kind = refl; allowed = p.1; maker = n; is_maker = first_nth at n ns; binds = has_among r.0 (outputs_of n) (member_has r.0 (outputs_of n) p.0) })
-  on (inr k) rec = let r = rec k in record { kind = r.kind; allowed = r.allowed; maker = r.maker; is_maker = later_nth at m.child n r.maker ns r.is_maker; binds = r.binds }
+      on : Member m (map (λ x. move_to true x at) (filter held (outputs_of n))) ⊎ Member m (signal_moves held (suc at) ns) → (Member m (signal_moves held (suc at) ns) → SignalMove held (suc at) ns m) → SignalMove held at (more_nodes n ns) m
+      on (inl k) rec =
+          let r = made_from (λ x. move_to true x at) m (filter held (outputs_of n)) k in
+          let p = passing held r.0 (outputs_of n) r.1.0 in
+          subst (λ z. SignalMove held at (more_nodes n ns) z) (sym r.1.1)
+          (record { kind = refl; allowed = p.1; maker = n; is_maker = first_nth at n ns; binds = has_among r.0 (outputs_of n) (member_has r.0 (outputs_of n) p.0) })
+      on (inr k) rec = let r = rec k in record { kind = r.kind; allowed = r.allowed; maker = r.maker; is_maker = later_nth at m.child n r.maker ns r.is_maker; binds = r.binds }
 
 there_case : (b : Bool) (held : ℕ → Bool) (at j x : ℕ) (n m : Node) (ns : Nodes) → nat_eq j at ≡ b → (if b then Some n else nth (suc at) j ns) ≡ Some m → among (outputs_of m) x ≡ true → held x ≡ true
     → (nth (suc at) j ns ≡ Some m → Member (move_to true x j) (signal_moves held (suc at) ns)) → Member (move_to true x j) (signal_moves held at (more_nodes n ns))
@@ -74,9 +74,13 @@ signal_moves_there held at j x m (more_nodes n ns) p o h = there_case (nat_eq j 
 pub wait_move_of : (w : List Right) (ns : Nodes) (m : Moved) → Member m (wait_moves w ns) → (m.signal ≡ false) × ((are_for w m.variable ≡ true) × Member m.child (users 1 ns m.variable))
 wait_move_of w ns m h =
     let r = joined_from (λ (right : Right). map (λ conjunct. move_to false right.variable conjunct) (users 1 ns right.variable)) m w h in
-    let q = made_from (λ conjunct. move_to false r.0.variable conjunct) m (users 1 ns r.0.variable) r.1.1 in
-    (ap (λ (z : Moved). z.signal) q.1.1, (is_right w m.variable r.0 r.1.0 (ap (λ (z : Moved). z.variable) (sym q.1.1)),
-    subst (λ (z : Moved). Member z.child (users 1 ns z.variable)) (sym q.1.1) q.1.0))
+    let q = made_from (λ conjunct. move_to false r.0.variable conjunct) m (users 1 ns r.0.variable) r.1.1 in (
+      ap (λ (z : Moved). z.signal) q.1.1,
+      (
+        is_right w m.variable r.0 r.1.0 (ap (λ (z : Moved). z.variable) (sym q.1.1)),
+        subst (λ (z : Moved). Member z.child (users 1 ns z.variable)) (sym q.1.1) q.1.0,
+      ),
+    )
 
 pub wait_moves_there : (w : List Right) (ns : Nodes) (x k : ℕ) → are_for w x ≡ true → Member k (users 1 ns x) → Member (move_to false x k) (wait_moves w ns)
 wait_moves_there w ns x k h u =
@@ -94,24 +98,26 @@ module _ (outputs : List ℕ) (w s : List Right) (goals : Nodes) where
   signal_child x k h =
       let r = signal_move x k all_moves h in
       on r.move r.variable r.child r.kind (member_either r.move (signal_moves (are_for s) 1 goals) (wait_moves w goals) r.there) where
-    on : (m : Moved) → m.variable ≡ x → m.child ≡ k → m.signal ≡ true → Member m (signal_moves (are_for s) 1 goals) ⊎ Member m (wait_moves w goals)
-        → (are_for s x ≡ true) × ((n : Node) × ((nth 1 k goals ≡ Some n) × (among (outputs_of n) x ≡ true)))
-    on m e c t (inl i) =
-        let f = signal_move_of (are_for s) 1 goals m i in
-        (subst (λ z. are_for s z ≡ true) e f.allowed, (f.maker, (subst (λ z. nth 1 z goals ≡ Some f.maker) c f.is_maker, subst (λ z. among (outputs_of f.maker) z ≡ true) e f.binds)))
-    on m e c t (inr i) = clash m.signal t (wait_move_of w goals m i).0
+        on : (m : Moved) → m.variable ≡ x → m.child ≡ k → m.signal ≡ true → Member m (signal_moves (are_for s) 1 goals) ⊎ Member m (wait_moves w goals)
+            → (are_for s x ≡ true) × ((n : Node) × ((nth 1 k goals ≡ Some n) × (among (outputs_of n) x ≡ true)))
+        on m e c t (inl i) =
+            let f = signal_move_of (are_for s) 1 goals m i in
+            (subst (λ z. are_for s z ≡ true) e f.allowed, (f.maker, (subst (λ z. nth 1 z goals ≡ Some f.maker) c f.is_maker, subst (λ z. among (outputs_of f.maker) z ≡ true) e f.binds)))
+        on m e c t (inr i) = clash m.signal t (wait_move_of w goals m i).0
 
   pub wait_child : (x k : ℕ) → child_for false x all_moves ≡ Some k → (are_for w x ≡ true) × ((n : Node) × ((nth 1 k goals ≡ Some n) × (in_node n x ≡ true)))
   wait_child x k h =
       let r = wait_move x k all_moves h in
       on r.move r.variable r.child r.kind (member_either r.move (signal_moves (are_for s) 1 goals) (wait_moves w goals) r.there) where
-    on : (m : Moved) → m.variable ≡ x → m.child ≡ k → m.signal ≡ false → Member m (signal_moves (are_for s) 1 goals) ⊎ Member m (wait_moves w goals)
-        → (are_for w x ≡ true) × ((n : Node) × ((nth 1 k goals ≡ Some n) × (in_node n x ≡ true)))
-    on m e c t (inl i) = clash m.signal (signal_move_of (are_for s) 1 goals m i).kind t
-    on m e c t (inr i) =
-        let f = wait_move_of w goals m i in
-        (subst (λ z. are_for w z ≡ true) e f.1.0, subst (λ z. (n : Node) × ((nth 1 k goals ≡ Some n) × (in_node n z ≡ true))) e
-        (subst (λ z. (n : Node) × ((nth 1 z goals ≡ Some n) × (in_node n m.variable ≡ true))) c (user_of 1 m.child m.variable goals f.1.1)))
+        on : (m : Moved) → m.variable ≡ x → m.child ≡ k → m.signal ≡ false → Member m (signal_moves (are_for s) 1 goals) ⊎ Member m (wait_moves w goals)
+            → (are_for w x ≡ true) × ((n : Node) × ((nth 1 k goals ≡ Some n) × (in_node n x ≡ true)))
+        on m e c t (inl i) = clash m.signal (signal_move_of (are_for s) 1 goals m i).kind t
+        on m e c t (inr i) =
+            let f = wait_move_of w goals m i in (
+              subst (λ z. are_for w z ≡ true) e f.1.0,
+              subst (λ z. (n : Node) × ((nth 1 k goals ≡ Some n) × (in_node n z ≡ true))) e
+                  (subst (λ z. (n : Node) × ((nth 1 z goals ≡ Some n) × (in_node n m.variable ≡ true))) c (user_of 1 m.child m.variable goals f.1.1)),
+            )
 
   pub child_signal : AreDistinct (all_outputs goals) → (x k : ℕ) (n : Node) → nth 1 k goals ≡ Some n → among (outputs_of n) x ≡ true → are_for s x ≡ true → child_for true x all_moves ≡ Some k
   child_signal d x k n p o h =
@@ -168,9 +174,9 @@ module _ (modes : ℕ → List ModeDecl) where
   outputs_free out b no_nodes g x h = absurd (cc)
   outputs_free out b (more_nodes n ns) g x h =
       on (in_either x (outputs_of n) (all_outputs ns) h) (λ k. outputs_free (with out (in_node n)) (with b (among (outputs_of n))) ns g.1 x k) where
-    on : (has x (outputs_of n) ≡ true) ⊎ (has x (all_outputs ns) ≡ true) → (has x (all_outputs ns) ≡ true → with b (among (outputs_of n)) x ≡ false) → b x ≡ false
-    on (inl k) rec = is_free b x (outputs_of n) (good_free (with out (in_nodes ns)) b n g.0) k
-    on (inr k) rec = not_more b (outputs_of n) x (rec k)
+        on : (has x (outputs_of n) ≡ true) ⊎ (has x (all_outputs ns) ≡ true) → (has x (all_outputs ns) ≡ true → with b (among (outputs_of n)) x ≡ false) → b x ≡ false
+        on (inl k) rec = is_free b x (outputs_of n) (good_free (with out (in_nodes ns)) b n g.0) k
+        on (inr k) rec = not_more b (outputs_of n) x (rec k)
 
   pub outputs_distinct : (out : Variables) (b : Bound) (ns : Nodes) → GoodNodes modes out b ns → AreDistinct (all_outputs ns)
   outputs_distinct out b no_nodes g = tt
@@ -178,4 +184,4 @@ module _ (modes : ℕ → List ModeDecl) where
       let f = good_free (with out (in_nodes ns)) b n g.0 in
       distinct_both (outputs_of n) (all_outputs ns) (free_distinct b (outputs_of n) f) (outputs_distinct (with out (in_node n)) (with b (among (outputs_of n))) ns g.1)
       (λ c h i. clash (with b (among (outputs_of n)) c) (or_right (b c) (among (outputs_of n) c) (has_among c (outputs_of n) h))
-        (outputs_free (with out (in_node n)) (with b (among (outputs_of n))) ns g.1 c i))
+      (outputs_free (with out (in_node n)) (with b (among (outputs_of n))) ns g.1 c i))

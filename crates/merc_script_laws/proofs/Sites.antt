@@ -1,19 +1,16 @@
 -- The cells and moves of an `&`: who binds, who uses, and that each is there once.
-use Rattle.std.proofs.Common.{◌≡◌, ◌⊎◌, inl, inr, ℕ, zero, suc, ◌+◌, ◌≤◌, ◌<◌, Bool, true, false, not, ◌==◌, ◌&&◌, ◌||◌, if◌then◌else◌, nat_eq, List, [], ◌∷◌, ◌++◌, length, map, filter, flat_map, Option, Some, None, refl, ap, sym, subst, ◌∙◌, arith}
+use Rattle.std.proofs.Common.{◌≡◌, ◌⊎◌, inl, inr, ℕ, suc, ◌+◌, ◌≤◌, ◌<◌, Bool, true, false, ◌==◌, ◌||◌, if◌then◌else◌, nat_eq, List, [], ◌∷◌, ◌++◌, length, map, filter, flat_map, Option, Some, None, refl, ap, sym, subst, ◌∙◌, arith}
 use Rattle.std.proofs.lemmas.Bool.Decides.{nat_tests}
 use Rattle.merc_graded_tree.specs.Nodes.{Node, Nodes, no_nodes, more_nodes, outputs_of}
 use Rattle.merc_graded_tree.specs.Variables.{among, in_node, in_nodes}
 use Rattle.merc_core.specs.Rights.{has}
 use Rattle.merc_core.specs.WellFormed.{AreDistinct}
 use Rattle.merc_par_split.specs.declared.sites.CellInfo.{CellInfo}
-use Rattle.merc_par_split.specs.declared.sites.Moved.{Moved}
-use Rattle.merc_par_split.specs.Rights.{Right, users}
-use Rattle.merc_par_split.specs.Sites.{count, consumers, cells_of, are_for, signal_moves, wait_moves, site_info}
-use Rattle.merc_plan.specs.Hold.{child_for}
-use Rattle.merc_plan.proofs.Sets.{clash, tell, absent, same_number, is_same, first_in, rest_in, front_or, in_left, in_right, in_either, and_both, both_and, or_either, or_left, or_right, not_true, true_not}
+use Rattle.merc_par_split.specs.Rights.{users}
+use Rattle.merc_par_split.specs.Sites.{count, consumers, cells_of}
+use Rattle.merc_plan.proofs.Sets.{clash, tell, absent, same_number, is_same, first_in, rest_in, front_or, in_left, in_right, in_either, or_either, or_left, or_right}
 use Rattle.merc_script_laws.specs.Parallel.{all_outputs}
-use Rattle.merc_script_laws.proofs.Members.{Member, member_left, member_right, member_either, passing, passes, made_from, is_made, joined_from, is_joined, numbered, number_in, has_member, member_has, distinct_filter, distinct_both, distinct_left, distinct_right, distinct_apart, map_both, filter_both}
-use Rattle.merc_script_laws.proofs.Cells.{signal_move, wait_move, signal_goes, wait_goes}
+use Rattle.merc_script_laws.proofs.Members.{Member, member_left, member_right, member_either, passing, made_from, is_made, joined_from, is_joined, numbered, has_member, member_has, distinct_filter, distinct_both, distinct_left, distinct_right, distinct_apart, map_both, filter_both}
 
 pub among_has : (x : ℕ) (xs : List ℕ) → among xs x ≡ true → has x xs ≡ true
 among_has x [] h = absurd (cc)
@@ -98,17 +95,17 @@ pub one_binder : (at i j x : ℕ) (m k : Node) (ns : Nodes) → AreDistinct (all
 one_binder at i j x m k no_nodes d p o q u = absurd (cc)
 one_binder at i j x m k (more_nodes n ns) d p o q u =
     on (tell (nat_eq i at)) (tell (nat_eq j at)) (λ r t. one_binder (suc at) i j x m k ns (distinct_right (outputs_of n) (all_outputs ns) d) r o t u) where
-  front : (l : ℕ) (y : Node) → nat_eq l at ≡ true → nth at l (more_nodes n ns) ≡ Some y → among (outputs_of y) x ≡ true → has x (outputs_of n) ≡ true
-  front l y e r h = among_has x (outputs_of n) (subst (λ z. among (outputs_of z) x ≡ true) (same_some y n (sym r ∙ ap (λ (b : Bool). if b then Some n else nth (suc at) l ns) e)) h)
+      front : (l : ℕ) (y : Node) → nat_eq l at ≡ true → nth at l (more_nodes n ns) ≡ Some y → among (outputs_of y) x ≡ true → has x (outputs_of n) ≡ true
+      front l y e r h = among_has x (outputs_of n) (subst (λ z. among (outputs_of z) x ≡ true) (same_some y n (sym r ∙ ap (λ (b : Bool). if b then Some n else nth (suc at) l ns) e)) h)
 
-  behind : (l : ℕ) (y : Node) → nat_eq l at ≡ false → nth at l (more_nodes n ns) ≡ Some y → nth (suc at) l ns ≡ Some y
-  behind l y e r = sym (past_nth at l n ns e) ∙ r
+      behind : (l : ℕ) (y : Node) → nat_eq l at ≡ false → nth at l (more_nodes n ns) ≡ Some y → nth (suc at) l ns ≡ Some y
+      behind l y e r = sym (past_nth at l n ns e) ∙ r
 
-  on : (nat_eq i at ≡ true) ⊎ (nat_eq i at ≡ false) → (nat_eq j at ≡ true) ⊎ (nat_eq j at ≡ false) → (nth (suc at) i ns ≡ Some m → nth (suc at) j ns ≡ Some k → i ≡ j) → i ≡ j
-  on (inl e) (inl f) rec = same_number i at e ∙ sym (same_number j at f)
-  on (inl e) (inr f) rec = absurd (distinct_apart x (outputs_of n) (all_outputs ns) d (front i m e p o) (bound_by (suc at) j x k ns (behind j k f q) u))
-  on (inr e) (inl f) rec = absurd (distinct_apart x (outputs_of n) (all_outputs ns) d (front j k f q u) (bound_by (suc at) i x m ns (behind i m e p) o))
-  on (inr e) (inr f) rec = rec (behind i m e p) (behind j k f q)
+      on : (nat_eq i at ≡ true) ⊎ (nat_eq i at ≡ false) → (nat_eq j at ≡ true) ⊎ (nat_eq j at ≡ false) → (nth (suc at) i ns ≡ Some m → nth (suc at) j ns ≡ Some k → i ≡ j) → i ≡ j
+      on (inl e) (inl f) rec = same_number i at e ∙ sym (same_number j at f)
+      on (inl e) (inr f) rec = absurd (distinct_apart x (outputs_of n) (all_outputs ns) d (front i m e p o) (bound_by (suc at) j x k ns (behind j k f q) u))
+      on (inr e) (inl f) rec = absurd (distinct_apart x (outputs_of n) (all_outputs ns) d (front j k f q u) (bound_by (suc at) i x m ns (behind i m e p) o))
+      on (inr e) (inr f) rec = rec (behind i m e p) (behind j k f q)
 
 -- The conjuncts that use a variable.
 
@@ -187,9 +184,9 @@ waits_behind at x outputs ns h = member_right 0 (users at ns x) (behind_too outp
 
 pub consumers_distinct : (at x : ℕ) (outputs : List ℕ) (ns : Nodes) → AreDistinct (consumers (suc at) ns outputs x)
 consumers_distinct at x outputs ns = distinct_both (users (suc at) ns x) (behind_too outputs x) (users_distinct (suc at) x ns) (behind_distinct (among outputs x)) (λ c h i.
-  let l = users_low (suc at) c x ns (has_member c (users (suc at) ns x) h) in
-  let z = (behind_case (among outputs x) c (has_member c (behind_too outputs x) i)).1 in
-  absurd (omega (arith, l, z)))
+    let l = users_low (suc at) c x ns (has_member c (users (suc at) ns x) h) in
+    let z = (behind_case (among outputs x) c (has_member c (behind_too outputs x) i)).1 in
+    absurd (omega (arith, l, z)))
 
 -- The cells of an `&`.
 
@@ -210,22 +207,22 @@ pub fact : (at : ℕ) (outputs : List ℕ) (ns : Nodes) (info : CellInfo) → Me
 fact at outputs no_nodes info h = absurd h
 fact at outputs (more_nodes n ns) info h =
     on (member_either info (flat_map (cells_for at outputs ns) (outputs_of n)) (cells_of (suc at) outputs ns) h) (λ i. fact (suc at) outputs ns info i) where
-  own_user : (x c : ℕ) → Waiter (suc at) outputs ns x c → ((c ≡ 0) × (among outputs x ≡ true)) ⊎ ((at < c) × ((m : Node) × ((nth at c (more_nodes n ns) ≡ Some m) × (in_node m x ≡ true))))
-  own_user x c (inl e) = inl e
-  own_user x c (inr e) = let l = e.0 in inr (omega (arith, l), (e.1.0, (later_nth at c n e.1.0 ns e.1.1.0, e.1.1.1)))
+      own_user : (x c : ℕ) → Waiter (suc at) outputs ns x c → ((c ≡ 0) × (among outputs x ≡ true)) ⊎ ((at < c) × ((m : Node) × ((nth at c (more_nodes n ns) ≡ Some m) × (in_node m x ≡ true))))
+      own_user x c (inl e) = inl e
+      own_user x c (inr e) = let l = e.0 in inr (omega (arith, l), (e.1.0, (later_nth at c n e.1.0 ns e.1.1.0, e.1.1.1)))
 
-  later_user : (i : CellInfo) → ((i.consumer ≡ 0) × (among outputs i.variable ≡ true)) ⊎ ((i.producer < i.consumer) × ((m : Node) × ((nth (suc at) i.consumer ns ≡ Some m) × (in_node m i.variable ≡ true))))
-      → ((i.consumer ≡ 0) × (among outputs i.variable ≡ true)) ⊎ ((i.producer < i.consumer) × ((m : Node) × ((nth at i.consumer (more_nodes n ns) ≡ Some m) × (in_node m i.variable ≡ true))))
-  later_user i (inl e) = inl e
-  later_user i (inr e) = inr (e.0, (e.1.0, (later_nth at i.consumer n e.1.0 ns e.1.1.0, e.1.1.1)))
+      later_user : (i : CellInfo) → ((i.consumer ≡ 0) × (among outputs i.variable ≡ true)) ⊎ ((i.producer < i.consumer) × ((m : Node) × ((nth (suc at) i.consumer ns ≡ Some m) × (in_node m i.variable ≡ true))))
+          → ((i.consumer ≡ 0) × (among outputs i.variable ≡ true)) ⊎ ((i.producer < i.consumer) × ((m : Node) × ((nth at i.consumer (more_nodes n ns) ≡ Some m) × (in_node m i.variable ≡ true))))
+      later_user i (inl e) = inl e
+      later_user i (inr e) = inr (e.0, (e.1.0, (later_nth at i.consumer n e.1.0 ns e.1.1.0, e.1.1.1)))
 
-  on : Member info (flat_map (cells_for at outputs ns) (outputs_of n)) ⊎ Member info (cells_of (suc at) outputs ns) → (Member info (cells_of (suc at) outputs ns) → Fact (suc at) outputs ns info) → Fact at outputs (more_nodes n ns) info
-  on (inl i) rec =
-      let r = joined_from (cells_for at outputs ns) info (outputs_of n) i in
-      let t = made_from (λ consumer. cell_for r.0 at consumer) info (consumers (suc at) ns outputs r.0) r.1.1 in
-      subst (λ z. Fact at outputs (more_nodes n ns) z) (sym t.1.1)
-      (record { maker = n; is_maker = first_nth at n ns; binds = has_among r.0 (outputs_of n) (member_has r.0 (outputs_of n) r.1.0); user = own_user r.0 t.0 (waiter_of (suc at) outputs ns r.0 t.0 t.1.0) })
-  on (inr i) rec = let f = rec i in record { maker = f.maker; is_maker = later_nth at info.producer n f.maker ns f.is_maker; binds = f.binds; user = later_user info f.user }
+      on : Member info (flat_map (cells_for at outputs ns) (outputs_of n)) ⊎ Member info (cells_of (suc at) outputs ns) → (Member info (cells_of (suc at) outputs ns) → Fact (suc at) outputs ns info) → Fact at outputs (more_nodes n ns) info
+      on (inl i) rec =
+          let r = joined_from (cells_for at outputs ns) info (outputs_of n) i in
+          let t = made_from (λ consumer. cell_for r.0 at consumer) info (consumers (suc at) ns outputs r.0) r.1.1 in
+          subst (λ z. Fact at outputs (more_nodes n ns) z) (sym t.1.1)
+          (record { maker = n; is_maker = first_nth at n ns; binds = has_among r.0 (outputs_of n) (member_has r.0 (outputs_of n) r.1.0); user = own_user r.0 t.0 (waiter_of (suc at) outputs ns r.0 t.0 t.1.0) })
+      on (inr i) rec = let f = rec i in record { maker = f.maker; is_maker = later_nth at info.producer n f.maker ns f.is_maker; binds = f.binds; user = later_user info f.user }
 
 -- each use has its cell
 there_case : (b : Bool) (outputs : List ℕ) (at j k x : ℕ) (n m : Node) (ns : Nodes) → nat_eq j at ≡ b → (if b then Some n else nth (suc at) j ns) ≡ Some m → among (outputs_of m) x ≡ true
@@ -254,7 +251,7 @@ output_cell outputs at j x n (more_nodes m ns) p o h = there_case (nat_eq j at) 
 one_case : (x at k c : ℕ) (cs : List ℕ) (b : Bool) → (c == k) ≡ b → has c cs ≡ false
     → map (λ (z : CellInfo). z.variable) (filter (λ (z : CellInfo). z.consumer == k) (map (λ consumer. cell_for x at consumer) cs)) ≡ (if has k cs then x ∷ [] else [])
     → map (λ (z : CellInfo). z.variable) (if b then cell_for x at c ∷ filter (λ (z : CellInfo). z.consumer == k) (map (λ consumer. cell_for x at consumer) cs) else filter (λ (z : CellInfo). z.consumer == k) (map (λ consumer. cell_for x at consumer) cs))
-      ≡ (if (b || has k cs) then x ∷ [] else [])
+    ≡ (if (b || has k cs) then x ∷ [] else [])
 one_case x at k c cs true e d h = ap (λ l. x ∷ l) (h ∙ ap (λ (b : Bool). if b then x ∷ [] else []) (subst (λ z. has z cs ≡ false) (same_number c k e) d))
 one_case x at k c cs false e d h = h
 
@@ -275,7 +272,7 @@ block_variables at k outputs ns (x ∷ xs) =
     ∙ map_both (λ (z : CellInfo). z.variable) (filter (λ (z : CellInfo). z.consumer == k) (cells_for at outputs ns x)) (filter (λ (z : CellInfo). z.consumer == k) (flat_map (cells_for at outputs ns) xs))
     ∙ ap (λ l. l ++ map (λ (z : CellInfo). z.variable) (filter (λ (z : CellInfo). z.consumer == k) (flat_map (cells_for at outputs ns) xs))) (one_for x at k (consumers (suc at) ns outputs x) (consumers_distinct at x outputs ns))
     ∙ block_case x (has k (consumers (suc at) ns outputs x)) (map (λ (z : CellInfo). z.variable) (filter (λ (z : CellInfo). z.consumer == k) (flat_map (cells_for at outputs ns) xs)))
-      (filter (λ x. has k (consumers (suc at) ns outputs x)) xs) (block_variables at k outputs ns xs)
+    (filter (λ x. has k (consumers (suc at) ns outputs x)) xs) (block_variables at k outputs ns xs)
 
 -- the variables for which a conjunct, or what is behind, waits
 abbrev pub waited_by : ℕ → List CellInfo → List ℕ
@@ -300,5 +297,5 @@ waited_distinct at k outputs (more_nodes n ns) d = subst AreDistinct (sym (waite
     (distinct_filter (λ x. has k (consumers (suc at) ns outputs x)) (outputs_of n) (distinct_left (outputs_of n) (all_outputs ns) d))
     (waited_distinct (suc at) k outputs ns (distinct_right (outputs_of n) (all_outputs ns) d))
     (λ c h i. distinct_apart c (outputs_of n) (all_outputs ns) d
-      (member_has c (outputs_of n) (passing (λ x. has k (consumers (suc at) ns outputs x)) c (outputs_of n) (has_member c (filter (λ x. has k (consumers (suc at) ns outputs x)) (outputs_of n)) h)).0)
-      (waited_bound (suc at) k outputs ns c i)))
+    (member_has c (outputs_of n) (passing (λ x. has k (consumers (suc at) ns outputs x)) c (outputs_of n) (has_member c (filter (λ x. has k (consumers (suc at) ns outputs x)) (outputs_of n)) h)).0)
+    (waited_bound (suc at) k outputs ns c i)))

@@ -107,6 +107,7 @@ module _ (uses rest_uses later : ℕ → Bool) (b : Bound) (here : Set) (w s : L
     names = λ k. n.names (m.names k);
     signed = λ x c h. m.signed x c (n.signed x c h);
     still = λ k. n.still (λ x. those_within (unused (among outs)) s x (k x)) ∙ m.still (λ x. those_within (among outs) s x (k x));
+    unsigned = λ x h. n.unsigned x (those_within (unused (among outs)) s x h) ∙ m.unsigned x (those_within (among outs) s x h);
   } where
     fresh_on : (x : ℕ) → (among outs x ≡ true) ⊎ (among outs2 x ≡ true) → (v : Value) × Here hold2 x v
     fresh_on x (inl h) = let g = m.fresh x h in (g.0, n.keep x g.0 (inr (inl h)) g.1)
@@ -281,6 +282,7 @@ module _ (b : Bound) (here : Set) (w w1 w2 : List Right) (hold hold1 : Hold) (pa
     names = λ k. n.names (m.names k);
     signed = λ x c h. m.signed x c (n.signed x c h);
     still = λ k. n.still k ∙ m.still (λ x. refl);
+    unsigned = λ x h. n.unsigned x h ∙ m.unsigned x refl;
   } where
     got : (x c : ℕ) (o : Option Value) → are_for w x ≡ true → later x ≡ true → Owed hold x c o → (v : Value) × ((o ≡ Some v) × Here hold2 x v)
     got x c o h l e = on (parts x h) where
@@ -330,7 +332,7 @@ module _ (uses later : ℕ → Bool) (here : Set) (w s s1 : List Right) (outs : 
   abbrev passed : ℕ → Bool
   passed x = later x && not (uses x)
 
-  pub moves_closed : (((x : ℕ) → are_for s x ≡ false) → (x : ℕ) → are_for s1 x ≡ false) → Moves here (those uses w) s1 later outs hold hold1
+  pub moves_closed : ((x : ℕ) → are_for s x ≡ false → are_for s1 x ≡ false) → Moves here (those uses w) s1 later outs hold hold1
       → Moves (here_behind here (those uses w) later outs) (those passed w) [] always [] hold1 hold2 → Moves here w s later outs hold hold2
   moves_closed none m n = record {
     keep = λ x v h e. n.keep x v (inl h) (m.keep x v h e);
@@ -341,7 +343,8 @@ module _ (uses later : ℕ → Bool) (here : Set) (w s s1 : List Right) (outs : 
     next = n.next ∙ m.next;
     names = λ k. n.names (m.names k);
     signed = λ x c h. m.signed x c (n.signed x c h);
-    still = λ k. n.still (λ x. refl) ∙ m.still (none k);
+    still = λ k. n.still (λ x. refl) ∙ m.still (λ x. none x (k x));
+    unsigned = λ x h. n.unsigned x refl ∙ m.unsigned x (none x h);
   } where
     got : (x c : ℕ) (o : Option Value) → are_for w x ≡ true → later x ≡ true → Owed hold x c o → (uses x ≡ true) ⊎ (uses x ≡ false) → (v : Value) × ((o ≡ Some v) × Here hold2 x v)
     got x c o h l e (inl u) =

@@ -49,7 +49,7 @@ use Rattle.merc_plan.proofs.Flat.{Like, events}
 use Rattle.merc_plan.proofs.Judging.{flat, Sure, Keeps, Quiet}
 use Rattle.merc_plan.proofs.Holds.{keeps_end}
 use Rattle.merc_script_laws.specs.Parallel.{ArmsKeepOutputs, ArmsHaveFew}
-use Rattle.merc_script_laws.proofs.Bonds.{Set, Here, signs, AllUsed, Fit, Fine, After, Match, Names, Ends, Ready, Used, Rightful, Planned, Sound, Goes}
+use Rattle.merc_script_laws.proofs.Bonds.{Counted, Set, Here, signs, AllUsed, Fit, Fine, After, Match, Names, Ends, Ready, Used, Rightful, Planned, Sound, Goes}
 use Rattle.merc_script_laws.proofs.RightLists.{those_in}
 use Rattle.merc_script_laws.proofs.Seen.{other_more}
 use Rattle.merc_script_laws.proofs.JoinedLeaves.{ready_less, fine_less}
@@ -187,7 +187,7 @@ module _ (known : Module) (types i : Instance) (declared : AreGoodTypes known.ty
   pub record ArmsGo (arms : Arms) (make : (ℕ → Bool) → List Right → List Right → Arms) (fits : (ℕ → Bool) → List Right → List Right → Type 0) : Type 1 where
     pub along : (x : ℕ) (v : Value) (later : ℕ → Bool) (w s : List Right) (out whole : Variables) (outs : List ℕ) (b : Bound) (seen : Known) (here : Set) (hold : Hold) (full : Env) → fits later w s
         → ((y : ℕ) → in_arms arms y ≡ true → whole y ≡ true) → SoundArms known types i out whole b outs seen x arms → Fits known types i out b whole seen full → Fit b here w hold → Match w hold full → Ready here w b whole
-        → Names hold → value_at full x ≡ Some v
+        → Names hold → Counted s hold → value_at full x ≡ Some v
         → Like (Ends full here w s later outs hold) (flat (arms_branch plan split course (make later w s) (Some v) hold)) (events (arms_trace program calls arms (Some v) full))
         × Sure (arms_branch plan split course (make later w s) (Some v) hold)
     pub uses : (x : ℕ) (v : Value) (later : ℕ → Bool) (w s : List Right) (out whole : Variables) (outs : List ℕ) (b : Bound) (seen : Known) (here : Set) (hold : Hold) (rights : ℕ → Bool) (held : List ℕ) (g : List Gift)
@@ -201,7 +201,7 @@ module _ (known : Module) (types i : Instance) (declared : AreGoodTypes known.ty
 
   pub no_arms_go : (fits : (ℕ → Bool) → List Right → List Right → Type 0) → ArmsGo no_arms (λ later w s. no_arms) fits
   no_arms_go fits = record {
-    along = λ x v later w s out whole outs b seen here hold full fit sub sound there f t r names at. (tt, tt);
+    along = λ x v later w s out whole outs b seen here hold full fit sub sound there f t r names counted at. (tt, tt);
     uses = λ x v later w s out whole outs b seen here hold rights held g proper is_proper fit sub used sound can taken fine f r names q is at. clash taken refl;
     quiet = λ x v later out whole outs b seen here hold fit sub sound fine f r names is at. tt;
   }
@@ -232,15 +232,15 @@ module _ (known : Module) (types i : Instance) (declared : AreGoodTypes known.ty
 
     along : (x : ℕ) (v : Value) (later : ℕ → Bool) (w s : List Right) (out whole : Variables) (outs : List ℕ) (b : Bound) (seen : Known) (here : Set) (hold : Hold) (full : Env) → due later w s
         → ((y : ℕ) → in_arms all_arms y ≡ true → whole y ≡ true) → SoundArms known types i out whole b outs seen x all_arms → Fits known types i out b whole seen full → Fit b here w hold → Match w hold full → Ready here w b whole
-        → Names hold → value_at full x ≡ Some v
+        → Names hold → Counted s hold → value_at full x ≡ Some v
         → Like (Ends full here w s later outs hold) (flat (c_where (fields sy v) (arm later w s hold) (other_arms later w s v hold))) (events (arms_trace program calls all_arms (Some v) full))
         × Sure (c_where (fields sy v) (arm later w s hold) (other_arms later w s v hold))
-    along x v later w s out whole outs b seen here hold full fit sub sound there f t r names at =
+    along x v later w s out whole outs b seen here hold full fit sub sound there f t r names counted at =
         where_along (Ends full here w s later outs hold) (arm later w s hold) (other_arms later w s v hold) (node_trace program calls n full) (arms_trace program calls arms (Some v) full) (fields sy v)
         (λ vs e.
         arm_along known types i declared program calls lawful plan split course n make fits goes later w s fit.0 (with out (among (x ∷ []))) b ((x, sy) ∷ seen) here hold (sound_arm known types i out whole b outs seen x sy n arms sound) f
-        (ready_less here w b whole (in_node n) (in_arm whole sub) r) names full (fits_arm known types i out (in_node n) whole b seen full x sy v vs there (in_arm whole sub) at e) t outs sound.outputs.0.1)
-        (others.along x v later w s out whole outs b seen here hold full fit.1 (in_others whole sub) (sound_others known types i out whole b outs seen x sy n arms sound) there f t r names at)
+        (ready_less here w b whole (in_node n) (in_arm whole sub) r) names full (fits_arm known types i out (in_node n) whole b seen full x sy v vs there (in_arm whole sub) at e) t counted outs sound.outputs.0.1)
+        (others.along x v later w s out whole outs b seen here hold full fit.1 (in_others whole sub) (sound_others known types i out whole b outs seen x sy n arms sound) there f t r names counted at)
 
     module _ (x : ℕ) (v : Value) (later : ℕ → Bool) (w s : List Right) (out whole : Variables) (outs : List ℕ) (b : Bound) (seen : Known) (here : Set) (hold : Hold) (rights : ℕ → Bool) (held : List ℕ) (g : List Gift) (proper : ℕ → Value → Type 0)
         (is_proper : (y c : ℕ) (u : Value) → are_for s y ≡ true → has c (signs y hold) ≡ true → HasType known.types u (replaced i (types y)) → proper c u) (fit : due later w s) (sub : (y : ℕ) → in_arms all_arms y ≡ true → whole y ≡ true)

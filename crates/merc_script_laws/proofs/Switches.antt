@@ -1,5 +1,5 @@
 -- Switches beside other branches: they wait for their variable, and each arm for what it uses.
-use Rattle.std.proofs.Common.{◌≡◌, inl, inr, ℕ, Bool, true, false, ◌==◌, ◌||◌, if◌then◌else◌, List, [], Option, Some, refl, sym, subst}
+use Rattle.std.proofs.Common.{◌≡◌, inl, inr, ℕ, Bool, true, false, ◌==◌, ◌||◌, if◌then◌else◌, List, [], Option, Some, refl, sym, subst, length, ap, ◌∙◌}
 use Rattle.merc_base.specs.Category.{can_fail_of, most_of}
 use Rattle.merc_base.specs.declared.category.Category.{Category}
 use Rattle.merc_base.specs.declared.category.Most.TheVariants.{Zero}
@@ -33,7 +33,7 @@ use Rattle.merc_plan.specs.Branches.{Plan, once_if as c_once, node_branch, arms_
 use Rattle.merc_plan.proofs.Flat.{Like, events}
 use Rattle.merc_plan.proofs.Judging.{flat, Sure, Keeps, Quiet}
 use Rattle.merc_plan.proofs.Holds.{keeps_once, keeps_end, quiet_once}
-use Rattle.merc_script_laws.proofs.Bonds.{Set, Here, signs, AllUsed, Fit, Fine, After, Match, Names, Ends, Ready, here_or, Used, Rightful, Sound, Proper, Goes}
+use Rattle.merc_script_laws.proofs.Bonds.{Counted, Set, Here, signs, AllUsed, Fit, Fine, After, Match, Names, Ends, Ready, here_or, Used, Rightful, Sound, Proper, Goes}
 use Rattle.merc_script_laws.proofs.RightLists.{equal_same, those_in, in_those, those_once}
 use Rattle.merc_script_laws.proofs.Steps.{unused, Waits, fit_waited, match_waited, ready_waited, fine_waited}
 use Rattle.merc_script_laws.proofs.Holding.{waitable}
@@ -127,17 +127,17 @@ module _ (known : Module) (types i : Instance) (declared : AreGoodTypes known.ty
       it : (v : Value) × Here hold1 x v
       it = fit1.held x here1
 
-      along_waited : (full : Env) → Fits known types i out b occurs seen full → Match w hold full
+      along_waited : (full : Env) → Fits known types i out b occurs seen full → Match w hold full → Counted s hold
           → Like (Ends full Here1 (others w) s later outs hold1) (flat (node_branch plan split course (inner later w s) hold1)) (events (node_trace program calls whole full))
           × Sure (node_branch plan split course (inner later w s) hold1)
-      along_waited full there t =
+      along_waited full there t counted =
           let d = divides_those is_it w in
           let R : Hold → Env → Type 0 = Ends full Here1 (others w) s later outs hold1 in
           let once : Bool = answers_once outs cat in
           let t1 = match_waited b here w (early w) (others w) hold hold1 d.parts d.in1 d.in2 d.apart full f t p in
           let v = it in
           let at : value_at full x ≡ Some v.0 = t1.same x v.0 v.1 in
-          let a = goes.along x v.0 later (others w) s out occurs outs b seen Here1 hold1 full fit in_switch (sound_arms out b seen sound) there fit1 t1 ready1 names1 at in
+          let a = goes.along x v.0 later (others w) s out occurs outs b seen Here1 hold1 full fit in_switch (sound_arms out b seen sound) there fit1 t1 ready1 names1 (λ y h. counted y h ∙ ap length (sym (p.moves.unsigned y refl))) at in
           subst (λ o. Like R (flat (node_branch plan split course (inner later w s) hold1)) (events (t_once once (arms_trace program calls arms o full))) × Sure (node_branch plan split course (inner later w s) hold1)) (sym at)
           (subst (λ o. Like R (flat (c_once once (arms_branch plan split course (makes later (others w) s) o hold1))) (events (t_once once (arms_trace program calls arms (Some v.0) full)))
           × Sure (c_once once (arms_branch plan split course (makes later (others w) s) o hold1))) (sym v.1)
@@ -201,10 +201,10 @@ module _ (known : Module) (types i : Instance) (declared : AreGoodTypes known.ty
 
     pub goes_switch : Goes known types i program calls plan split course whole made due
     goes_switch = record {
-      along = λ later w s out b seen here hold full fit all within sound there f t r names.
-          around_along plan split course (Switch x (makes later (others w) s)) outs cat span here w (early w) (others w) s [] s later hold (divides_those is_it w) (divides_second s) b full (events (node_trace program calls whole full)) within
+      along = λ later w s out b seen here hold full fit all within sound there f t r names counted.
+          around_along plan split course (Switch x (makes later (others w) s)) outs cat span here w (early w) (others w) s [] s later hold (divides_those is_it w) (divides_second s) names counted (λ y h. clash h refl) b full (events (node_trace program calls whole full)) within
           (once_same (answers_once outs cat) (goal_trace program calls (Switch x arms) full)) (waitable hold names) f (those_once is_it w f.once) t
-          (λ hold1 p. along_waited later w s out b seen here hold fit sound f r names hold1 p full there t) (early w) [] refl refl;
+          (λ hold1 p. along_waited later w s out b seen here hold fit sound f r names hold1 p full there t counted) (early w) [] refl refl;
       uses = λ later w s out b seen here hold rights held g proper is_proper fit all sound can fine f r names q.
           around_uses plan split course (Switch x (makes later (others w) s)) outs cat span here w (early w) (others w) s [] s later hold (divides_those is_it w) (divides_second s) known types i out b occurs seen seen never proper rights held g names f q
           (λ y h. all y (those_in is_it w y h).0) (those_once is_it w f.once) (λ y h. clash h refl)

@@ -94,9 +94,9 @@ module _ (known : Module) (types i : Instance) (declared : AreGoodTypes known.ty
       → ListGoes known types i declared program calls lawful plan split course ns makes fits
       → Goes known types i program calls plan split course (node (Conjunction Sequential ns) outs cat span) (λ later w s. node (Conjunction Sequential (makes later w s)) outs cat span) fits
   goes_conj ns makes fits list = record {
-    along = λ later w s out b seen here hold full fit all within sound there f t r names.
+    along = λ later w s out b seen here hold full fit all within sound there f t r names counted.
         let wider : AreWithin outs (all_outputs ns) = sound.parallel.outputs.1 in
-        let a = list.along later w s out b seen here hold full fit all (λ x h. wider x (within x h)) (sound_all known types i out b seen ns outs cat span sound) there f t r names in
+        let a = list.along later w s out b seen here hold full fit all (λ x h. wider x (within x h)) (sound_all known types i out b seen ns outs cat span sound) there f t r names counted in
         let go : BranchCourse = all_branch plan split course (makes later w s) hold in
         wrap (Ends full here w s later outs hold) (answers_once outs cat) go (all_trace program calls ns full)
         (like_more (Ends full here w s later (all_outputs ns) hold) (Ends full here w s later outs hold) (λ e q k. (fewer_outputs here w s later (all_outputs ns) outs hold e wider k.0, k.1)) (flat go) (events (all_trace program calls ns full)) a.0)
@@ -130,9 +130,9 @@ module _ (known : Module) (types i : Instance) (declared : AreGoodTypes known.ty
   pub goes_quantified : (own : List ℕ) (n : Node) (make : (ℕ → Bool) → List Right → List Right → Node) (fits : (ℕ → Bool) → List Right → List Right → Type 0) → Goes known types i program calls plan split course n make fits
       → Goes known types i program calls plan split course (node (Quantified own n) outs cat span) (λ later w s. node (Quantified own (make later w s)) outs cat span) fits
   goes_quantified own n make fits goes = record {
-    along = λ later w s out b seen here hold full fit all within sound there f t r names.
+    along = λ later w s out b seen here hold full fit all within sound there f t r names counted.
         let wider : AreWithin outs (outputs_of n) = sound.parallel.outputs.1 in
-        let a = goes.along later w s out b seen here hold full fit all (λ x h. wider x (within x h)) (sound_inner known types i out b seen own n outs cat span sound) there f t r names in
+        let a = goes.along later w s out b seen here hold full fit all (λ x h. wider x (within x h)) (sound_inner known types i out b seen own n outs cat span sound) there f t r names counted in
         let go : BranchCourse = node_branch plan split course (make later w s) hold in
         wrap (Ends full here w s later outs hold) (answers_once outs cat) go (node_trace program calls n full)
         (like_more (Ends full here w s later (outputs_of n) hold) (Ends full here w s later outs hold) (λ e q k. (fewer_outputs here w s later (outputs_of n) outs hold e wider k.0, k.1)) (flat go) (events (node_trace program calls n full)) a.0)

@@ -1,3 +1,4 @@
 pub mod Parallel
 pub mod ScriptLaws
 pub mod ParallelExamples
+pub mod ScriptLawsExamples

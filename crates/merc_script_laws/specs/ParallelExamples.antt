@@ -1,5 +1,5 @@
 -- Worked examples of outputs that parts have, and of the number of conjuncts.
-use Rattle.std.specs.Prelude.{◌≡◌, ◌≤◌, ◌⊎◌, ℕ, pos, true, false, List, [], ◌∷◌, Some, None, refl}
+use Rattle.std.specs.Prelude.{◌≡◌, ◌≤◌, ℕ, pos, List, [], ◌∷◌, Some, None, refl}
 use Rattle.std.proofs.Common.{arith, inl, inr}
 use Rattle.merc_base.specs.declared.category.Category.TheVariants.{Det, Failure}
 use Rattle.merc_base.specs.declared.place.Span.{Span}
@@ -7,7 +7,7 @@ use Rattle.merc_tree.specs.declared.declarations.ModeDecl.{ModeDecl}
 use Rattle.merc_goal_tree.specs.declared.goal.Symbol.TheVariants.{Integer}
 use Rattle.merc_graded_tree.specs.declared.basic.BasicGoal.TheVariants.{Fail, Build}
 use Rattle.merc_graded_tree.specs.declared.entries.Running.TheVariants.{Sequential, Parallel}
-use Rattle.merc_graded_tree.specs.Nodes.{Node, node, Basic, Conjunction, Disjunction, Negation, Nodes, no_nodes, more_nodes, nodes_of}
+use Rattle.merc_graded_tree.specs.Nodes.{Node, node, Basic, Conjunction, Disjunction, Negation, nodes_of}
 use Rattle.merc_script_laws.specs.Parallel.{all_outputs, ArmHas, KeepsOutputs, HasFew}
 
 abbrev nowhere : Span

@@ -1,6 +1,23 @@
 //! Laws of the scripts of accepted goals.
+ghost use Rattle.merc_script_laws.specs.ScriptLaws.{GoalsStandAtScripts, JoinsShowTraces, ScriptsAreWellFormed, ScriptsShowRuns};
 
-/// Nothing yet.
-pub fn nothing() -> bool {
-    true
-}
+/// The script of each accepted goal is well formed, so that what holds of the core holds of it.
+pub fn scripts_are_well_formed()
+    ensures { ScriptsAreWellFormed }
+{}
+
+/// The script of each accepted goal ends as the goal's strict sequential run does, after as many steps.
+pub fn scripts_show_runs()
+    ensures { ScriptsShowRuns }
+{}
+
+/// What an accepted goal does beside others, by what it is told, stands at its script.
+pub fn goals_stand_at_scripts()
+    ensures { GoalsStandAtScripts }
+{}
+
+/// What the scripts of an `&`'s conjuncts join to is what its goals show one after the other, and its script, with
+/// theirs, is well formed.
+pub fn joins_show_traces()
+    ensures { JoinsShowTraces }
+{}
