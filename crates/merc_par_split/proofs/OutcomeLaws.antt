@@ -153,9 +153,10 @@ conditional_outcome site before waits signals condition then_part else_part outp
 
 abbrev parallel_outcome : (site : ℕ) (before moved signals : List Right) (goals : Nodes) (outputs : List ℕ) (category : Option Category) (span : Span) → Node × List SiteInfo
 parallel_outcome site before moved signals goals outputs category span =
-    let inner = side_by_side (suc site) 1 outputs moved signals [] goals in
-    (between before (node (Conjunction (Parallel (Some (record { number = site }))) inner.0) outputs category span) (map (λ variable. wait_at span (right_to 0 variable)) outputs),
-        site_info outputs moved signals goals ∷ inner.1)
+    let inner = side_by_side (suc site) 1 outputs moved signals [] goals in (
+      between before (node (Conjunction (Parallel (Some (record { number = site }))) inner.0) outputs category span) (map (λ variable. wait_at span (right_to 0 variable)) outputs),
+      site_info outputs moved signals goals ∷ inner.1,
+    )
 
 mutual
   pub outcome_is : (n : Node) (site : ℕ) (later : ℕ → Bool) (waits signals : List Right)
@@ -178,8 +179,10 @@ mutual
       let staying = those (λ variable. not (moves_in later goals variable)) waits in
       ap (λ l. parallel_outcome site (rights_of (filter (stays goals) tags)) l signals goals outputs category span) (rights_tagged (moves goals) later waits)
       ∙ ap (λ l. parallel_outcome site l moved signals goals outputs category span) (rights_tagged (stays goals) later waits)
-      ∙ ap (λ (p : Nodes × List SiteInfo). (between staying (node (Conjunction (Parallel (Some (record { number = site }))) p.0) outputs category span) (map (λ variable. wait_at span (right_to 0 variable)) outputs),
-          site_info outputs moved signals goals ∷ p.1)) (side_by_side_is goals (suc site) 1 outputs moved signals [])
+      ∙ ap (λ (p : Nodes × List SiteInfo). (
+        between staying (node (Conjunction (Parallel (Some (record { number = site }))) p.0) outputs category span) (map (λ variable. wait_at span (right_to 0 variable)) outputs),
+        site_info outputs moved signals goals ∷ p.1,
+      )) (side_by_side_is goals (suc site) 1 outputs moved signals [])
   entered_is (Disjunction goals) site later waits signals outputs category span =
       ap (λ (l : List Right). (around l signals (node (Disjunction (alone site goals).0) outputs category span), (alone site goals).1)) (untagged later waits)
       ∙ ap (λ (p : Nodes × List SiteInfo). (around waits signals (node (Disjunction p.0) outputs category span), p.1)) (alone_is goals site)
@@ -199,9 +202,10 @@ mutual
       ∙ ap (λ l. conditional_outcome site l (map (tagged later) inner) signals condition then_part else_part outputs category span)
       (rights_tagged (λ wait. in_node condition wait.right.variable) later waits)
       ∙ chained (λ one (more : Node × Node). around (used_in condition waits) [] (node (Conditional one more.0 more.1) outputs category span)) site (outcome site [] [] condition)
-      (λ s. arms_outcome s (map (tagged later) inner) signals then_part else_part) (placed site nothing [] [] condition) (planned nothing [] [] condition) (forks condition)
-      (ahead_of (placed (site + forks condition) later (used_in then_part inner) (bound_in then_part signals) then_part) (passed_by later then_part inner),
-      ahead_of (placed (site + forks condition + forks then_part) later (used_in else_part inner) (bound_in else_part signals) else_part) (passed_by later else_part inner))
+      (λ s. arms_outcome s (map (tagged later) inner) signals then_part else_part) (placed site nothing [] [] condition) (planned nothing [] [] condition) (forks condition) (
+        ahead_of (placed (site + forks condition) later (used_in then_part inner) (bound_in then_part signals) then_part) (passed_by later then_part inner),
+        ahead_of (placed (site + forks condition + forks then_part) later (used_in else_part inner) (bound_in else_part signals) else_part) (passed_by later else_part inner),
+      )
       (planned later (used_in then_part inner) (bound_in then_part signals) then_part ++ planned later (used_in else_part inner) (bound_in else_part signals) else_part)
       (outcome_is condition site nothing [] []) (planned_count condition nothing [] [])
       (chained (λ one (more : Node). (one, more)) (site + forks condition) (arm_outcome (site + forks condition) (map (tagged later) inner) signals then_part)

@@ -40,7 +40,7 @@ placed_if false placing = Enter placing ∷ []
 
 placed_either : (b : Bool) (placing : Placing)
     → (if b then Enter (record { goal = placing.goal; first = placing.first; waits = placing.waits; signals = [] }) ∷ Signals placing.signals (span_of placing.goal) ∷ wraps (length placing.signals) placing.goal
-      else Enter placing ∷ []) ≡ placed_if b placing
+    else Enter placing ∷ []) ≡ placed_if b placing
 placed_either true placing = refl
 placed_either false placing = refl
 
@@ -64,9 +64,10 @@ place_done (node g outputs category span) first waits signals at = by (may_fail 
   where
     site : ℕ
     site = length at.sites
+
     by : (b : Bool) → after_all (placed_if b (record { goal = node g outputs category span; first = first; waits = waits; signals = signals })) at
         ≡ with_outcome at (if b then (around [] signals (entered (length at.sites) waits [] g outputs category span).0, (entered (length at.sites) waits [] g outputs category span).1)
-          else entered (length at.sites) waits signals g outputs category span)
+        else entered (length at.sites) waits signals g outputs category span)
     by true = apart_done (record { goal = node g outputs category span; first = first; waits = waits; signals = signals }) at
     by false = refl
 
