@@ -1,11 +1,12 @@
 //! What is left to do for a goal with its rights.
 ghost use Rattle.std.specs.Prelude.{◌≡◌, ◌++◌, List, [], ◌∷◌, length, map, IfOk, OnOk};
+ghost use Rattle.merc_graded_tree.specs.declared.entries.Root.TheVariants.{Quantified};
 ghost use Rattle.merc_graded_tree.specs.Labels.{all_labels, labels_of};
 ghost use Rattle.merc_graded_tree.specs.Nodes.{Node};
 ghost use Rattle.merc_par_split.specs.Constructs.{arm_tasks, conditional_tasks, site_tasks, switch_tasks, turn_tasks, whole_tasks, LeavesConjuncts};
 ghost use Rattle.merc_par_split.specs.Rights.{right_to};
 ghost use Rattle.merc_par_split.specs.Split.{may_fail};
-ghost use Rattle.merc_par_split.specs.Tasks.{closed, member_tasks, placed_tasks, shares_of, starts_of, Lies, Performs};
+ghost use Rattle.merc_par_split.specs.Tasks.{closed, member_tasks, placed_tasks, relabelled, shares_of, starts_of, Lies, Performs};
 ghost use Rattle.merc_par_split.specs.declared.tasks.Task.{Task};
 
 use crate::arms::{bound_shares, passed, put_shares};
@@ -19,7 +20,7 @@ use crate::sites::SiteInfo;
 use crate::tasks::{Placing, Task, Tasks, leave_wrap, relabelled, sum};
 use crate::turns::{signals_in_turn, waits_in_turn};
 use merc_base::{Category, NoMemory, Sequence};
-use merc_goal_tree::{Symbol, Var};
+use merc_goal_tree::{Symbol, Var, Vars};
 use merc_graded_tree::{NodeRef, NodeView, Parts, Root, Running, Site};
 use std::alloc::Global;
 
@@ -97,6 +98,10 @@ pub(crate) fn enter<'a>(
             leave_whole(alloc, placing, root, listed(alloc, goals)?, tasks)
         }
         NodeView::Switch(variable, symbols, arms) => {
+            // There are as many arms as symbols.
+            if symbols.as_slice().len() != arms.len() {
+                return Err(NoMemory);
+            }
             leave_switch(alloc, occurrences, placing, variable, symbols, arms, tasks)
         }
         NodeView::Conditional(condition, then_part, else_part) => leave_conditional(
@@ -106,12 +111,23 @@ pub(crate) fn enter<'a>(
             let inner = single(alloc, inner)?;
             leave_whole(alloc, placing, Root::Negation, inner, tasks)
         }
-        NodeView::Quantified(own, inner) => {
-            let root = Root::Quantified(own.try_clone(alloc)?);
-            tasks.push(Task::Close(relabelled(alloc, &placing.goal, root)?))?;
-            tasks.push(Task::Place(Placing { goal: inner, ..placing }))
-        }
+        NodeView::Quantified(own, inner) => leave_quantified(alloc, placing, own, inner, tasks),
     }
+}
+
+// Leaves a goal that has variables for itself. All rights go into it.
+fn leave_quantified<'a>(
+    alloc: Global,
+    placing: Placing<'a>,
+    own: &Vars,
+    inner: NodeRef<'a>,
+    tasks: &mut Tasks<'a>,
+) -> Result<(), NoMemory>
+    ensures { OnOk result (tasks.new ≡ Task.Place (record { goal = inner.entry; first = placing.entry.first; waits = placing.entry.waits; signals = placing.entry.signals }) ∷ Task.Close (relabelled placing.entry.goal (Quantified own.now)) ∷ tasks.old) }
+{
+    let root = Root::Quantified(own.try_clone(alloc)?);
+    tasks.push(Task::Close(relabelled(alloc, &placing.goal, root)?))?;
+    tasks.push(Task::Place(Placing { goal: inner, ..placing }))
 }
 
 // A list of one goal.
