@@ -1,11 +1,15 @@
 //! What is left to do for a goal with its rights.
-ghost use Rattle.std.specs.Prelude.{◌≡◌, ◌++◌, List, [], ◌∷◌, length, map, IfOk, OnOk};
+ghost use Rattle.std.specs.Prelude.{◌≡◌, ◌≢◌, ◌++◌, List, [], ◌∷◌, length, map, Option, IfOk, OnOk};
+ghost use Rattle.merc_graded_tree.specs.declared.entries.Root.TheVariants.{Basic as BasicRoot, Disjunction as DisjunctionRoot, Negation as NegationRoot, Quantified};
 ghost use Rattle.merc_graded_tree.specs.Labels.{all_labels, labels_of};
-ghost use Rattle.merc_graded_tree.specs.Nodes.{Node};
+ghost use Rattle.merc_graded_tree.specs.Nodes.{goal_of, Node, Nodes as Goals, Conjunction as ConjunctionGoal};
+ghost use Rattle.merc_graded_tree.specs.declared.basic.Site.{Site as SiteNumber};
+ghost use Rattle.merc_graded_tree.specs.declared.entries.Running.TheVariants.{Parallel};
+ghost use Rattle.merc_par_split.specs.declared.sites.SiteInfo.{SiteInfo as SiteView};
 ghost use Rattle.merc_par_split.specs.Constructs.{arm_tasks, conditional_tasks, site_tasks, switch_tasks, turn_tasks, whole_tasks, LeavesConjuncts};
 ghost use Rattle.merc_par_split.specs.Rights.{right_to};
 ghost use Rattle.merc_par_split.specs.Split.{may_fail};
-ghost use Rattle.merc_par_split.specs.Tasks.{closed, member_tasks, placed_tasks, shares_of, starts_of, Lies, Performs};
+ghost use Rattle.merc_par_split.specs.Tasks.{closed, member_tasks, placed_tasks, relabelled, shares_of, starts_of, Lies, Performs};
 ghost use Rattle.merc_par_split.specs.declared.tasks.Task.{Task};
 
 use crate::arms::{bound_shares, passed, put_shares};
@@ -19,8 +23,8 @@ use crate::sites::SiteInfo;
 use crate::tasks::{Placing, Task, Tasks, leave_wrap, relabelled, sum};
 use crate::turns::{signals_in_turn, waits_in_turn};
 use merc_base::{Category, NoMemory, Sequence};
-use merc_goal_tree::{Symbol, Var};
-use merc_graded_tree::{NodeRef, NodeView, Parts, Root, Running, Site};
+use merc_goal_tree::{Symbol, Var, Vars};
+use merc_graded_tree::{BasicGoal, NodeRef, NodeView, Parts, Root, Running, Site};
 use std::alloc::Global;
 
 // A goal whose category is not known may fail.
@@ -92,45 +96,112 @@ pub(crate) fn enter<'a>(
     ensures { OnOk result ((goals : List Node) → Performs occurrences.now (Task.Enter placing.entry) tasks.old (record { goals = goals; sites = sites.old.items }) tasks.new (record { goals = goals; sites = sites.new.items })) }
 {
     match placing.goal.view() {
-        NodeView::Basic(basic) => {
-            let root = Root::Basic(basic.try_clone(alloc)?);
-            leave_whole(alloc, placing, root, Vec::new(alloc), tasks)
-        }
-        NodeView::Conjunction(Running::Sequential, goals) => {
-            leave_turns(alloc, occurrences, placing, goals, tasks)
-        }
         NodeView::Conjunction(Running::Parallel(_), goals) => {
             leave_conjuncts(alloc, occurrences, placing, goals, tasks, sites)
         }
-        NodeView::Disjunction(goals) => {
-            let root = Root::Disjunction(goals.len());
-            leave_whole(alloc, placing, root, listed(alloc, goals)?, tasks)
+        _ => enter_single(alloc, occurrences, placing, tasks),
+    }
+}
+
+// Leaves a goal that is no `&`.
+fn enter_single<'a>(
+    alloc: Global,
+    occurrences: &Occurrences<'_>,
+    placing: Placing<'a>,
+    tasks: &mut Tasks<'a>,
+) -> Result<(), NoMemory>
+    requires lies { Lies (labels_of occurrences.now) placing.first (labels_of placing.goal) }
+    requires single { (site : Option SiteNumber) (goals : Goals) → goal_of placing.goal ≢ ConjunctionGoal (Parallel site) goals }
+    ensures { OnOk result ((goals : List Node) (sites : List SiteView) → Performs occurrences.now (Task.Enter placing.entry) tasks.old (record { goals = goals; sites = sites }) tasks.new (record { goals = goals; sites = sites })) }
+{
+    match placing.goal.view() {
+        NodeView::Basic(basic) => leave_basic(alloc, placing, basic, tasks),
+        NodeView::Conjunction(Running::Sequential, goals) => {
+            leave_turns(alloc, occurrences, placing, goals, tasks)
         }
+        NodeView::Conjunction(Running::Parallel(_), _) => unreachable!(),
+        NodeView::Disjunction(goals) => leave_disjunction(alloc, placing, goals, tasks),
         NodeView::Switch(variable, symbols, arms) => {
-            leave_switch(alloc, occurrences, placing, variable, symbols, arms, tasks)
+            leave_whole_switch(alloc, occurrences, placing, variable, symbols, arms, tasks)
         }
         NodeView::Conditional(condition, then_part, else_part) => leave_conditional(
-            alloc,
-            occurrences,
-            placing,
-            condition,
-            then_part,
-            else_part,
-            tasks,
+            alloc, occurrences, placing, condition, then_part, else_part, tasks,
         ),
-        NodeView::Negation(inner) => {
-            let inner = single(alloc, inner)?;
-            leave_whole(alloc, placing, Root::Negation, inner, tasks)
-        }
-        NodeView::Quantified(own, inner) => {
-            let root = Root::Quantified(own.try_clone(alloc)?);
-            tasks.push(Task::Close(relabelled(alloc, &placing.goal, root)?))?;
-            tasks.push(Task::Place(Placing {
-                goal: inner,
-                ..placing
-            }))
-        }
+        NodeView::Negation(inner) => leave_negation(alloc, placing, inner, tasks),
+        NodeView::Quantified(own, inner) => leave_quantified(alloc, placing, own, inner, tasks),
     }
+}
+
+// Leaves a goal that holds no others.
+fn leave_basic<'a>(
+    alloc: Global,
+    placing: Placing<'a>,
+    basic: &BasicGoal,
+    tasks: &mut Tasks<'a>,
+) -> Result<(), NoMemory>
+    ensures { OnOk result (tasks.new ≡ whole_tasks placing.entry (BasicRoot basic.now) [] ++ tasks.old) }
+{
+    let root = Root::Basic(basic.try_clone(alloc)?);
+    leave_whole(alloc, placing, root, Vec::new(alloc), tasks)
+}
+
+// Leaves goals to choose from.
+fn leave_disjunction<'a>(
+    alloc: Global,
+    placing: Placing<'a>,
+    goals: Parts<'a>,
+    tasks: &mut Tasks<'a>,
+) -> Result<(), NoMemory>
+    ensures { OnOk result (tasks.new ≡ whole_tasks placing.entry (DisjunctionRoot (length goals.entry)) goals.entry ++ tasks.old) }
+{
+    let root = Root::Disjunction(goals.len());
+    leave_whole(alloc, placing, root, listed(alloc, goals)?, tasks)
+}
+
+// Leaves the negation of a goal.
+fn leave_negation<'a>(
+    alloc: Global,
+    placing: Placing<'a>,
+    inner: NodeRef<'a>,
+    tasks: &mut Tasks<'a>,
+) -> Result<(), NoMemory>
+    ensures { OnOk result (tasks.new ≡ whole_tasks placing.entry NegationRoot (inner.entry ∷ []) ++ tasks.old) }
+{
+    leave_whole(alloc, placing, Root::Negation, single(alloc, inner)?, tasks)
+}
+
+// Leaves a switch, which has as many arms as symbols.
+fn leave_whole_switch<'a>(
+    alloc: Global,
+    occurrences: &Occurrences<'_>,
+    placing: Placing<'a>,
+    variable: Var,
+    symbols: &Sequence<Symbol>,
+    arms: Parts<'a>,
+    tasks: &mut Tasks<'a>,
+) -> Result<(), NoMemory>
+    requires { Lies (labels_of occurrences.now) placing.first (all_labels arms) }
+    ensures { OnOk result ((length symbols.now ≡ length arms.entry) × (tasks.new ≡ switch_tasks placing.entry variable symbols.now arms.entry ++ tasks.old)) }
+{
+    if symbols.as_slice().len() != arms.len() {
+        return Err(NoMemory);
+    }
+    leave_switch(alloc, occurrences, placing, variable, symbols, arms, tasks)
+}
+
+// Leaves a goal that has variables for itself. All rights go into it.
+fn leave_quantified<'a>(
+    alloc: Global,
+    placing: Placing<'a>,
+    own: &Vars,
+    inner: NodeRef<'a>,
+    tasks: &mut Tasks<'a>,
+) -> Result<(), NoMemory>
+    ensures { OnOk result (tasks.new ≡ Task.Place (record { goal = inner.entry; first = placing.entry.first; waits = placing.entry.waits; signals = placing.entry.signals }) ∷ Task.Close (relabelled placing.entry.goal (Quantified own.now)) ∷ tasks.old) }
+{
+    let root = Root::Quantified(own.try_clone(alloc)?);
+    tasks.push(Task::Close(relabelled(alloc, &placing.goal, root)?))?;
+    tasks.push(Task::Place(Placing { goal: inner, ..placing }))
 }
 
 // A list of one goal.
