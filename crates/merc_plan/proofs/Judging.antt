@@ -60,7 +60,7 @@ abbrev mutual
   Served root given (Awaits c v t) = (has c given ≡ true) × Served root given t
   Served root given (Gives c v t) = Served root given t
   Served root given (Forks i x kids t) =
-    AllServed (without (names x.cells) given) kids × (AllAnswer kids → Served root (without (names x.cells) given ++ all_marks kids) t)
+      AllServed (without (names x.cells) given) kids × (AllAnswer kids → Served root (without (names x.cells) given ++ all_marks kids) t)
 
   pub AllServed : List ℕ → BranchCourses → Type 0
   AllServed given no_branches = ⊤
@@ -145,17 +145,17 @@ abbrev mutual
   Keeps proper end rights waits given (Finds hold t) = end waits given hold
   Keeps proper end rights waits given (Awaits c v t) = (has c waits ≡ true) × Keeps proper end rights (without (c ∷ []) waits) given t
   Keeps proper end rights waits given (Gives c v t) =
-    (proper c v × (rights c ≡ true)) × ((gift_at c given ≡ None) × Keeps proper end rights waits (given ++ (record { cell = c; value = Some v } ∷ [])) t)
+      (proper c v × (rights c ≡ true)) × ((gift_at c given ≡ None) × Keeps proper end rights waits (given ++ (record { cell = c; value = Some v } ∷ [])) t)
   Keeps proper end rights waits given (Forks i x kids t) =
-    SiteFits (kid_count kids) rights given waits x
-    × (AllKeep proper x 1 kids
-    × (AllAnswer kids → Keeps proper end rights (uses 0 x.cells ++ without (names x.cells) (without (moved false x.moves) waits)) (given ++ gifts_through (moved true x.moves) (all_give kids)) t))
+      SiteFits (kid_count kids) rights given waits x
+      × (AllKeep proper x 1 kids
+      × (AllAnswer kids → Keeps proper end rights (uses 0 x.cells ++ without (names x.cells) (without (moved false x.moves) waits)) (given ++ gifts_through (moved true x.moves) (all_give kids)) t))
 
   -- A conjunct gives what is proper for the cells of its parent, whose names are told apart from the fork's own.
   pub AllKeep : (ℕ → Value → Type 0) → Fork → ℕ → BranchCourses → Type 0
   AllKeep proper x k no_branches = ⊤
   AllKeep proper x k (more_branches t more) =
-    Keeps (λ c v. has c (names x.cells) ≡ false → proper c v) (Whole (λ c. has c (signals_to k x))) (λ c. has c (signals_to k x)) (waits_to k x) [] t × AllKeep proper x (suc k) more
+      Keeps (λ c v. has c (names x.cells) ≡ false → proper c v) (Whole (λ c. has c (signals_to k x))) (λ c. has c (signals_to k x)) (waits_to k x) [] t × AllKeep proper x (suc k) more
 
 -- nothing is asked of what is given
 abbrev pub anything : ℕ → Value → Type 0
@@ -170,7 +170,7 @@ Quiet next pending (Finds hold t) = Quiet next [] t
 Quiet next pending (Awaits c v t) = (has c pending ≡ true) × ((next ≤ c) × Quiet next (without (c ∷ []) pending) t)
 Quiet next pending (Gives c v t) = ⊥
 Quiet next pending (Forks i x kids t) =
-  (x.moves ≡ []) × (OwnFits (kid_count kids) next x × (AllKeep anything x 1 kids × (AllAnswer kids → Quiet next (uses 0 x.cells ++ without (names x.cells) pending) t)))
+    (x.moves ≡ []) × (OwnFits (kid_count kids) next x × (AllKeep anything x 1 kids × (AllAnswer kids → Quiet next (uses 0 x.cells ++ without (names x.cells) pending) t)))
 
 -- Scripts of which cells are told by names.
 
@@ -190,18 +190,18 @@ abbrev mutual
   NamedFormed value s signals waits (Ends o) = AllByRecursion (λ c. value c ≡ None) signals × EndsWell o signals
   NamedFormed value s signals waits (TickThen r) = NamedFormed value (suc s) signals waits r
   NamedFormed value s signals waits (WaitThen c r) =
-    (has c waits ≡ true) × ((value c ≡ None → r ≡ Ends Starved) × NamedFormed value s signals (without (c ∷ []) waits) r)
+      (has c waits ≡ true) × ((value c ≡ None → r ≡ Ends Starved) × NamedFormed value s signals (without (c ∷ []) waits) r)
   NamedFormed value s signals waits (SignalThen c r) =
-    (has c signals ≡ true) × ((value c ≢ None) × NamedFormed value s (without (c ∷ []) signals) waits r)
+      (has c signals ≡ true) × ((value c ≢ None) × NamedFormed value s (without (c ∷ []) signals) waits r)
   NamedFormed value s signals waits (ForkThen l cells moves all r) =
-    ForkFits s signals waits l cells moves (count all)
-    × (NamesFit signals cells moves
-    × (AllNamedFormed (told_values value cells) cells moves 1 all
-    × (Follows s (joined l (ends all)) r
-    × NamedFormed (told_values value cells) (s + gain (joined l (ends all))) (signals_behind signals moves)
-        (used_by 0 cells ++ without (numbers_of cells) (without (moved false moves) waits)) r)))
+      ForkFits s signals waits l cells moves (count all)
+      × (NamesFit signals cells moves
+      × (AllNamedFormed (told_values value cells) cells moves 1 all
+      × (Follows s (joined l (ends all)) r
+      × NamedFormed (told_values value cells) (s + gain (joined l (ends all))) (signals_behind signals moves)
+      (used_by 0 cells ++ without (numbers_of cells) (without (moved false moves) waits)) r)))
 
   pub AllNamedFormed : (ℕ → Option Value) → List Cell → List Move → ℕ → Children → Type 0
   AllNamedFormed value cells moves k NoChild = ⊤
   AllNamedFormed value cells moves k (Child s more) =
-    NamedFormed value 0 (signals_at k cells moves) (waits_at k cells moves) s × AllNamedFormed value cells moves (suc k) more
+      NamedFormed value 0 (signals_at k cells moves) (waits_at k cells moves) s × AllNamedFormed value cells moves (suc k) more
