@@ -3,7 +3,7 @@ ghost use Rattle.std.specs.Prelude.{◌≡◌, ◌++◌, List, [], ◌∷◌, le
 ghost use Rattle.merc_graded_tree.specs.declared.entries.Root.TheVariants.{Basic as BasicRoot, Disjunction as DisjunctionRoot, Negation as NegationRoot, Quantified};
 ghost use Rattle.merc_graded_tree.specs.Labels.{all_labels, labels_of};
 ghost use Rattle.merc_graded_tree.specs.Nodes.{Node};
-ghost use Rattle.merc_par_split.specs.Constructs.{arm_tasks, conditional_tasks, site_tasks, switch_tasks, turn_tasks, whole_tasks, LeavesConjuncts};
+ghost use Rattle.merc_par_split.specs.Constructs.{arm_tasks, conditional_tasks, site_tasks, switch_tasks, turn_tasks, whole_tasks, LeavesConjuncts, LeavesRunning};
 ghost use Rattle.merc_par_split.specs.Rights.{right_to};
 ghost use Rattle.merc_par_split.specs.Split.{may_fail};
 ghost use Rattle.merc_par_split.specs.Tasks.{closed, member_tasks, placed_tasks, relabelled, shares_of, starts_of, Lies, Performs};
@@ -84,11 +84,8 @@ pub(crate) fn enter<'a>(
 {
     match placing.goal.view() {
         NodeView::Basic(basic) => leave_basic(alloc, placing, basic, tasks),
-        NodeView::Conjunction(Running::Sequential, goals) => {
-            leave_turns(alloc, occurrences, placing, goals, tasks)
-        }
-        NodeView::Conjunction(Running::Parallel(_), goals) => {
-            leave_conjuncts(alloc, occurrences, placing, goals, tasks, sites)
+        NodeView::Conjunction(running, goals) => {
+            leave_conjunction(alloc, occurrences, placing, running, goals, tasks, sites)
         }
         NodeView::Disjunction(goals) => leave_disjunction(alloc, placing, goals, tasks),
         NodeView::Switch(variable, symbols, arms) => {
@@ -99,6 +96,25 @@ pub(crate) fn enter<'a>(
         ),
         NodeView::Negation(inner) => leave_negation(alloc, placing, inner, tasks),
         NodeView::Quantified(own, inner) => leave_quantified(alloc, placing, own, inner, tasks),
+    }
+}
+
+// Leaves goals that run in this way.
+fn leave_conjunction<'a>(
+    alloc: Global,
+    occurrences: &Occurrences<'_>,
+    placing: Placing<'a>,
+    running: Running,
+    goals: Parts<'a>,
+    tasks: &mut Tasks<'a>,
+    sites: &mut Vec<SiteInfo>,
+) -> Result<(), NoMemory>
+    requires { Lies (labels_of occurrences.now) placing.first (all_labels goals) }
+    ensures { OnOk result (LeavesRunning running placing.entry goals.entry sites.old.items sites.new.items tasks.old tasks.new) }
+{
+    match running {
+        Running::Sequential => leave_turns(alloc, occurrences, placing, goals, tasks),
+        Running::Parallel(_) => leave_conjuncts(alloc, occurrences, placing, goals, tasks, sites),
     }
 }
 
