@@ -1,7 +1,8 @@
 //! What is left to do for a goal with its rights.
 ghost use Rattle.std.specs.Prelude.{◌≡◌, ◌++◌, List, [], ◌∷◌, length, map, IfOk, OnOk};
 ghost use Rattle.merc_graded_tree.specs.declared.entries.Root.TheVariants.{Basic as BasicRoot, Disjunction as DisjunctionRoot, Negation as NegationRoot, Quantified};
-ghost use Rattle.merc_graded_tree.specs.Labels.{all_labels, labels_of};
+ghost use Rattle.merc_graded_tree.specs.Labels.{all_labels, arm_labels, labels_of};
+ghost use Rattle.merc_graded_tree.specs.Roots.{arms_of};
 ghost use Rattle.merc_graded_tree.specs.Nodes.{Node};
 ghost use Rattle.merc_par_split.specs.Constructs.{arm_tasks, conditional_tasks, site_tasks, switch_tasks, turn_tasks, whole_tasks, LeavesConjuncts, LeavesRunning};
 ghost use Rattle.merc_par_split.specs.Rights.{right_to};
@@ -166,7 +167,7 @@ fn leave_whole_switch<'a>(
     arms: Parts<'a>,
     tasks: &mut Tasks<'a>,
 ) -> Result<(), NoMemory>
-    requires { Lies (labels_of occurrences.now) placing.first (all_labels arms) }
+    requires { Lies (labels_of occurrences.now) placing.first (arm_labels (arms_of symbols.now arms)) }
     ensures { OnOk result ((length symbols.now ≡ length arms.entry) × (tasks.new ≡ switch_tasks placing.entry variable symbols.now arms.entry ++ tasks.old)) }
 {
     if symbols.as_slice().len() != arms.len() {
