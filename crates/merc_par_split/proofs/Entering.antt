@@ -8,12 +8,13 @@ use Rattle.merc_graded_tree.specs.declared.basic.BasicGoal.{BasicGoal}
 use Rattle.merc_graded_tree.specs.declared.basic.Site.{Site}
 use Rattle.merc_graded_tree.specs.declared.entries.Root.{Root}
 use Rattle.merc_graded_tree.specs.declared.entries.Root.TheVariants.{Conjunction as ConjunctionRoot, Disjunction as DisjunctionRoot, Switch as SwitchRoot, Conditional as ConditionalRoot, Negation as NegationRoot, Quantified as QuantifiedRoot, Basic as BasicRoot}
+use Rattle.merc_graded_tree.specs.declared.entries.Running.{Running}
 use Rattle.merc_graded_tree.specs.declared.entries.Running.TheVariants.{Sequential, Parallel}
-use Rattle.merc_graded_tree.specs.Nodes.{Node, Goal, Basic, Conjunction, Disjunction, Switch, Conditional, Negation, Quantified, nodes_of, list_of, goal_of, outputs_of, category_of, span_of}
+use Rattle.merc_graded_tree.specs.Nodes.{Node, Goal, Basic, Conjunction, Disjunction, Switch, Conditional, Negation, Quantified, Arms, nodes_of, list_of, goal_of, outputs_of, category_of, span_of}
 use Rattle.merc_graded_tree.specs.Roots.{arity_of, arms_of, bodies_of}
-use Rattle.merc_graded_tree.specs.Labels.{labels_of, inner_labels, joined_labels, all_labels}
+use Rattle.merc_graded_tree.specs.Labels.{labels_of, inner_labels, joined_labels, arm_labels, all_labels}
 use Rattle.merc_graded_tree.specs.Variables.{in_node}
-use Rattle.merc_par_split.specs.Constructs.{whole_tasks, turn_tasks, arm_tasks, switch_tasks, conditional_tasks, LeavesConjuncts}
+use Rattle.merc_par_split.specs.Constructs.{whole_tasks, turn_tasks, arm_tasks, switch_tasks, conditional_tasks, LeavesConjuncts, LeavesRunning}
 use Rattle.merc_par_split.specs.Members.{turn_wait, turn_signal, wait_shares, signal_shares, pass_shares}
 use Rattle.merc_par_split.specs.Outcomes.{rights_of, those_waits, others, stays}
 use Rattle.merc_par_split.specs.Rights.{Right, right_to}
@@ -203,3 +204,37 @@ module _ (whole : Node) (placing : Placing) (goals : List Node) (sites : List Si
         lie = λ lies. subst (λ l. AllLie whole l) (sym are)
         (framed-lie whole placing.goal root before members behind count (members-lie whole placing.first 0 list waits signals [] (lies-all list parts lies.0)) (λ more so. (tt, so)) tasks lies.1);
       }
+
+  pub running_performs : (running : Running) (list : List Node) (sites' : List SiteInfo) (tasks tasks' : List Task) → Conjunction running (nodes_of list) ≡ goal_of placing.goal
+      → LeavesRunning running placing list sites sites' tasks tasks' → Performs whole (Enter placing) tasks (at_with goals sites) tasks' (at_with goals sites')
+  running_performs Sequential list sites' tasks tasks' is leaves =
+      subst (λ t. Performs whole (Enter placing) tasks (at_with goals sites) t (at_with goals sites')) (sym leaves.0)
+      (subst (λ s. Performs whole (Enter placing) tasks (at_with goals sites) (turn_tasks placing list ++ tasks) (at_with goals s)) (sym leaves.1) (turns_perform list tasks is))
+  running_performs (Parallel unknown) list sites' tasks tasks' is leaves = conjuncts_perform unknown list sites' tasks tasks' is leaves
+
+-- tasks that are left before the others
+pub left : (whole : Node) (placing : Placing) (goals : List Node) (sites : List SiteInfo) (rest tasks tasks' : List Task) → tasks' ≡ tasks
+    → Performs whole (Enter placing) rest (at_with goals sites) tasks (at_with goals sites) → Performs whole (Enter placing) rest (at_with goals sites) tasks' (at_with goals sites)
+left whole placing goals sites rest tasks tasks' are performs = subst (λ t. Performs whole (Enter placing) rest (at_with goals sites) t (at_with goals sites)) (sym are) performs
+
+-- where the parts of goals lie that are joined
+pub lies-goals : (whole goal : Node) (first : ℕ) (inner : Goal) (list : List Node) → inner ≡ goal_of goal → inner_labels inner ≡ all_labels list
+    → Lies (labels_of whole) first (labels_of goal) → Lies (labels_of whole) first (all_labels list)
+lies-goals whole goal first inner list is parts lies = subst (λ l. Lies (labels_of whole) first l) (ap inner_labels (sym is) ∙ parts) (lies-inner (labels_of whole) first goal lies)
+
+pub lies-conjunction : (whole goal : Node) (first : ℕ) (running : Running) (list : List Node) → Conjunction running (nodes_of list) ≡ goal_of goal
+    → Lies (labels_of whole) first (labels_of goal) → Lies (labels_of whole) first (all_labels list)
+lies-conjunction whole goal first running list is lies =
+    lies-goals whole goal first (Conjunction running (nodes_of list)) list is (joined-all (nodes_of list) ∙ ap all_labels (list-nodes list)) lies
+
+pub lies-switch : (whole goal : Node) (first variable : ℕ) (arms : Arms) → Switch variable arms ≡ goal_of goal
+    → Lies (labels_of whole) first (labels_of goal) → Lies (labels_of whole) first (arm_labels arms)
+lies-switch whole goal first variable arms is lies = subst (λ l. Lies (labels_of whole) first l) (ap inner_labels (sym is)) (lies-inner (labels_of whole) first goal lies)
+
+pub lies-arms : (whole : Node) (first : ℕ) (symbols : List Symbol) (list : List Node) → length symbols ≡ length list
+    → Lies (labels_of whole) first (arm_labels (arms_of symbols list)) → Lies (labels_of whole) first (all_labels list)
+lies-arms whole first symbols list size lies = subst (λ l. Lies (labels_of whole) first l) (armed-all (arms_of symbols list) ∙ ap all_labels (bodies-are symbols list size)) lies
+
+pub lies-conditional : (whole goal : Node) (first : ℕ) (condition then_part else_part : Node) → Conditional condition then_part else_part ≡ goal_of goal
+    → Lies (labels_of whole) first (labels_of goal) → Lies (labels_of whole) first (labels_of condition ++ (labels_of then_part ++ labels_of else_part))
+lies-conditional whole goal first condition then_part else_part is lies = subst (λ l. Lies (labels_of whole) first l) (ap inner_labels (sym is)) (lies-inner (labels_of whole) first goal lies)

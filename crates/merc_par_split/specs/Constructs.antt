@@ -4,6 +4,7 @@ use Rattle.std.specs.List.{filter, flat_map}
 use Rattle.merc_goal_tree.specs.declared.goal.Symbol.{Symbol}
 use Rattle.merc_graded_tree.specs.declared.entries.Root.{Root}
 use Rattle.merc_graded_tree.specs.declared.entries.Root.TheVariants.{Conjunction, Switch, Conditional}
+use Rattle.merc_graded_tree.specs.declared.entries.Running.{Running}
 use Rattle.merc_graded_tree.specs.declared.entries.Running.TheVariants.{Sequential, Parallel}
 use Rattle.merc_graded_tree.specs.Nodes.{Node, outputs_of, span_of, nodes_of}
 use Rattle.merc_graded_tree.specs.Labels.{labels_of}
@@ -61,3 +62,8 @@ pub record LeavesConjuncts (placing : Placing) (goals : List Node) (sites sites'
   pub left : tasks' ≡ Waits (rights_of (filter (stays (nodes_of goals)) placing.waits)) (span_of placing.goal)
       ∷ (member_tasks placing.first (shares_of 0 goals with_moved.waits.items with_moved.signals.items [])
       ++ (site_tasks placing.goal (length goals) (length sites) (length (rights_of (filter (stays (nodes_of goals)) placing.waits))) ++ tasks))
+
+-- .. in this way
+abbrev pub LeavesRunning : Running → Placing → List Node → List SiteInfo → List SiteInfo → List Task → List Task → Type 0
+LeavesRunning Sequential placing goals sites sites' tasks tasks' = (tasks' ≡ turn_tasks placing goals ++ tasks) × (sites' ≡ sites)
+LeavesRunning (Parallel unknown) placing goals sites sites' tasks tasks' = LeavesConjuncts placing goals sites sites' tasks tasks'

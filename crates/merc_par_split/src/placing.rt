@@ -1,12 +1,10 @@
 //! What is left to do for a goal with its rights.
-ghost use Rattle.std.specs.Prelude.{◌≡◌, ◌≢◌, ◌++◌, List, [], ◌∷◌, length, map, Option, IfOk, OnOk};
+ghost use Rattle.std.specs.Prelude.{◌≡◌, ◌++◌, List, [], ◌∷◌, length, map, IfOk, OnOk};
 ghost use Rattle.merc_graded_tree.specs.declared.entries.Root.TheVariants.{Basic as BasicRoot, Disjunction as DisjunctionRoot, Negation as NegationRoot, Quantified};
-ghost use Rattle.merc_graded_tree.specs.Labels.{all_labels, labels_of};
-ghost use Rattle.merc_graded_tree.specs.Nodes.{goal_of, Node, Nodes as Goals, Conjunction as ConjunctionGoal};
-ghost use Rattle.merc_graded_tree.specs.declared.basic.Site.{Site as SiteNumber};
-ghost use Rattle.merc_graded_tree.specs.declared.entries.Running.TheVariants.{Parallel};
-ghost use Rattle.merc_par_split.specs.declared.sites.SiteInfo.{SiteInfo as SiteView};
-ghost use Rattle.merc_par_split.specs.Constructs.{arm_tasks, conditional_tasks, site_tasks, switch_tasks, turn_tasks, whole_tasks, LeavesConjuncts};
+ghost use Rattle.merc_graded_tree.specs.Labels.{all_labels, arm_labels, labels_of};
+ghost use Rattle.merc_graded_tree.specs.Roots.{arms_of};
+ghost use Rattle.merc_graded_tree.specs.Nodes.{Node};
+ghost use Rattle.merc_par_split.specs.Constructs.{arm_tasks, conditional_tasks, site_tasks, switch_tasks, turn_tasks, whole_tasks, LeavesConjuncts, LeavesRunning};
 ghost use Rattle.merc_par_split.specs.Rights.{right_to};
 ghost use Rattle.merc_par_split.specs.Split.{may_fail};
 ghost use Rattle.merc_par_split.specs.Tasks.{closed, member_tasks, placed_tasks, relabelled, shares_of, starts_of, Lies, Performs};
@@ -64,20 +62,10 @@ pub(crate) fn place<'a>(
     if !may_fail(placing.goal.category()) {
         return tasks.push(Task::Enter(placing));
     }
-    let Placing {
-        goal,
-        first,
-        waits,
-        signals,
-    } = placing;
+    let Placing { goal, first, waits, signals } = placing;
     leave_wrap(alloc, &goal, signals.as_slice().len(), tasks)?;
     tasks.push(Task::Signals(signals, goal.span()))?;
-    tasks.push(Task::Enter(Placing {
-        goal,
-        first,
-        waits,
-        signals: Sequence::new(alloc),
-    }))
+    tasks.push(Task::Enter(Placing { goal, first, waits, signals: Sequence::new(alloc) }))
 }
 
 /// Leaves what a goal joins, and what stands around it.
@@ -96,30 +84,10 @@ pub(crate) fn enter<'a>(
     ensures { OnOk result ((goals : List Node) → Performs occurrences.now (Task.Enter placing.entry) tasks.old (record { goals = goals; sites = sites.old.items }) tasks.new (record { goals = goals; sites = sites.new.items })) }
 {
     match placing.goal.view() {
-        NodeView::Conjunction(Running::Parallel(_), goals) => {
-            leave_conjuncts(alloc, occurrences, placing, goals, tasks, sites)
-        }
-        _ => enter_single(alloc, occurrences, placing, tasks),
-    }
-}
-
-// Leaves a goal that is no `&`.
-fn enter_single<'a>(
-    alloc: Global,
-    occurrences: &Occurrences<'_>,
-    placing: Placing<'a>,
-    tasks: &mut Tasks<'a>,
-) -> Result<(), NoMemory>
-    requires lies { Lies (labels_of occurrences.now) placing.first (labels_of placing.goal) }
-    requires single { (site : Option SiteNumber) (goals : Goals) → goal_of placing.goal ≢ ConjunctionGoal (Parallel site) goals }
-    ensures { OnOk result ((goals : List Node) (sites : List SiteView) → Performs occurrences.now (Task.Enter placing.entry) tasks.old (record { goals = goals; sites = sites }) tasks.new (record { goals = goals; sites = sites })) }
-{
-    match placing.goal.view() {
         NodeView::Basic(basic) => leave_basic(alloc, placing, basic, tasks),
-        NodeView::Conjunction(Running::Sequential, goals) => {
-            leave_turns(alloc, occurrences, placing, goals, tasks)
+        NodeView::Conjunction(running, goals) => {
+            leave_conjunction(alloc, occurrences, placing, running, goals, tasks, sites)
         }
-        NodeView::Conjunction(Running::Parallel(_), _) => unreachable!(),
         NodeView::Disjunction(goals) => leave_disjunction(alloc, placing, goals, tasks),
         NodeView::Switch(variable, symbols, arms) => {
             leave_whole_switch(alloc, occurrences, placing, variable, symbols, arms, tasks)
@@ -129,6 +97,25 @@ fn enter_single<'a>(
         ),
         NodeView::Negation(inner) => leave_negation(alloc, placing, inner, tasks),
         NodeView::Quantified(own, inner) => leave_quantified(alloc, placing, own, inner, tasks),
+    }
+}
+
+// Leaves goals that run in this way.
+fn leave_conjunction<'a>(
+    alloc: Global,
+    occurrences: &Occurrences<'_>,
+    placing: Placing<'a>,
+    running: Running,
+    goals: Parts<'a>,
+    tasks: &mut Tasks<'a>,
+    sites: &mut Vec<SiteInfo>,
+) -> Result<(), NoMemory>
+    requires { Lies (labels_of occurrences.now) placing.first (all_labels goals) }
+    ensures { OnOk result (LeavesRunning running placing.entry goals.entry sites.old.items sites.new.items tasks.old tasks.new) }
+{
+    match running {
+        Running::Sequential => leave_turns(alloc, occurrences, placing, goals, tasks),
+        Running::Parallel(_) => leave_conjuncts(alloc, occurrences, placing, goals, tasks, sites),
     }
 }
 
@@ -180,7 +167,7 @@ fn leave_whole_switch<'a>(
     arms: Parts<'a>,
     tasks: &mut Tasks<'a>,
 ) -> Result<(), NoMemory>
-    requires { Lies (labels_of occurrences.now) placing.first (all_labels arms) }
+    requires { Lies (labels_of occurrences.now) placing.first (arm_labels (arms_of symbols.now arms)) }
     ensures { OnOk result ((length symbols.now ≡ length arms.entry) × (tasks.new ≡ switch_tasks placing.entry variable symbols.now arms.entry ++ tasks.old)) }
 {
     if symbols.as_slice().len() != arms.len() {
@@ -240,25 +227,13 @@ fn leave_whole<'a>(
 ) -> Result<(), NoMemory>
     ensures { OnOk result (tasks.new ≡ whole_tasks placing.entry root goals.entry.items ++ tasks.old) }
 {
-    let Placing {
-        goal,
-        first,
-        waits,
-        signals,
-    } = placing;
+    let Placing { goal, first, waits, signals } = placing;
     let before = waits.as_slice().len();
     let count = signals.as_slice().len();
     let behind = Task::Signals(signals, goal.span());
     leave_closed(alloc, &goal, root, before, behind, count, tasks)?;
     let members = Members::of(alloc, goals, first)?;
-    leave_members(
-        alloc,
-        members,
-        &Rows::none(alloc),
-        &Rows::none(alloc),
-        &Rows::none(alloc),
-        tasks,
-    )?;
+    leave_members(alloc, members, &Rows::none(alloc), &Rows::none(alloc), &Rows::none(alloc), tasks)?;
     tasks.push(Task::Waits(rights(alloc, waits.as_slice())?, goal.span()))
 }
 
@@ -316,12 +291,7 @@ fn leave_switch<'a>(
     requires { Lies (labels_of occurrences.now) placing.first (all_labels arms) }
     ensures { OnOk result (tasks.new ≡ switch_tasks placing.entry variable symbols.now arms.entry ++ tasks.old) }
 {
-    let Placing {
-        goal,
-        first,
-        waits,
-        signals,
-    } = placing;
+    let Placing { goal, first, waits, signals } = placing;
     let parted = part_by_variable(alloc, variable, waits.as_slice())?;
     let root = Root::Switch(variable, symbols.try_clone(alloc)?);
     let behind = Task::Signals(Sequence::new(alloc), goal.span());
@@ -329,15 +299,7 @@ fn leave_switch<'a>(
     leave_closed(alloc, &goal, root, before, behind, 0, tasks)?;
     let goals = listed(alloc, arms)?;
     let inside = parted.inside.as_slice();
-    leave_arms(
-        alloc,
-        occurrences,
-        goals,
-        first,
-        inside,
-        signals.as_slice(),
-        tasks,
-    )?;
+    leave_arms(alloc, occurrences, goals, first, inside, signals.as_slice(), tasks)?;
     tasks.push(Task::Waits(parted.before, goal.span()))
 }
 
@@ -354,12 +316,7 @@ fn leave_conditional<'a>(
     requires { Lies (labels_of occurrences.now) placing.first (labels_of condition ++ (labels_of then_part ++ labels_of else_part)) }
     ensures { OnOk result (tasks.new ≡ conditional_tasks placing.entry condition.entry then_part.entry else_part.entry ++ tasks.old) }
 {
-    let Placing {
-        goal,
-        first,
-        waits,
-        signals,
-    } = placing;
+    let Placing { goal, first, waits, signals } = placing;
     let past = sum(first, condition.part_count())?;
     let asked = Members::of(alloc, single(alloc, condition.copy())?, first)?;
     let parted = part_by_use(alloc, occurrences, &asked, waits.as_slice())?;
@@ -368,15 +325,7 @@ fn leave_conditional<'a>(
     leave_closed(alloc, &goal, Root::Conditional, before, behind, 0, tasks)?;
     let arms = pair(alloc, then_part, else_part)?;
     let inside = parted.inside.as_slice();
-    leave_arms(
-        alloc,
-        occurrences,
-        arms,
-        past,
-        inside,
-        signals.as_slice(),
-        tasks,
-    )?;
+    leave_arms(alloc, occurrences, arms, past, inside, signals.as_slice(), tasks)?;
     tasks.push(without_rights(alloc, condition, first))?;
     tasks.push(Task::Waits(parted.before, goal.span()))
 }
@@ -408,32 +357,14 @@ fn leave_conjuncts<'a>(
     requires { Lies (labels_of occurrences.now) placing.first (all_labels goals) }
     ensures { OnOk result (LeavesConjuncts placing.entry goals.entry sites.old.items sites.new.items tasks.old tasks.new) }
 {
-    let Placing {
-        goal,
-        first,
-        waits,
-        signals,
-    } = placing;
+    let Placing { goal, first, waits, signals } = placing;
     let members = Members::of(alloc, listed(alloc, goals)?, first)?;
     let parted = part_by_moves(alloc, occurrences, &members, waits.as_slice())?;
     let outputs = goal.outputs().as_slice();
     let mut found = found_at(alloc, occurrences, &members, outputs, signals.as_slice())?;
-    put_moved(
-        alloc,
-        occurrences,
-        &members,
-        parted.inside.as_slice(),
-        &mut found,
-    )?;
+    put_moved(alloc, occurrences, &members, parted.inside.as_slice(), &mut found)?;
     let before = parted.before.as_slice().len();
-    leave_site(
-        alloc,
-        &goal,
-        members.goals.len(),
-        sites.len(),
-        before,
-        tasks,
-    )?;
+    leave_site(alloc, &goal, members.goals.len(), sites.len(), before, tasks)?;
     leave_found(alloc, members, found, tasks, sites)?;
     tasks.push(Task::Waits(parted.before, goal.span()))
 }
@@ -461,10 +392,7 @@ fn parent_waits(alloc: Global, outputs: &[Var]) -> Result<Sequence<Right>, NoMem
 {
     let mut rights = Sequence::new(alloc);
     for variable in outputs {
-        rights.push(Right {
-            variable: *variable,
-            conjunct: 0,
-        })?;
+        rights.push(Right { variable: *variable, conjunct: 0 })?;
     }
     Ok(rights)
 }
@@ -481,12 +409,7 @@ fn leave_found<'a>(
     ensures tasks { OnOk result (tasks.new ≡ member_tasks members.entry.first (shares_of 0 members.entry.goals.items found.waits.items found.signals.items []) ++ tasks.old) }
     ensures sites { OnOk result (sites.new.items ≡ sites.old.items ++ record { children = length members.entry.goals.items; cells = found.cells.items; moves = found.moves.items } ∷ []) }
 {
-    let Found {
-        cells,
-        moves,
-        waits,
-        signals,
-    } = found;
+    let Found { cells, moves, waits, signals } = found;
     sites.push(SiteInfo {
         children: members.goals.len(),
         cells: Sequence::from_vec(cells),
