@@ -1,6 +1,6 @@
 use Rattle.std.proofs.Common.{◌∙◌, ap, sym, length}
 use Rattle.std.proofs.lemmas.Result.{on_ok_weaker}
-use Rattle.merc_par_split.proofs.PerformLaws.{lies-arms}
+use Rattle.merc_par_split.proofs.Entering.{lies-arms}
 use Rattle.merc_par_split.proofs.placing.leave_whole_switch.Goals as goal
 
 pub leave_switch-requires : goal.leave_switch-requires
