@@ -174,9 +174,10 @@ module _ (whole : Node) (placing : Placing) (goals : List Node) (sites : List Si
       (let l = ap length parts in let sum = length-append (labels_of condition) (all_labels arms) in let own = labels-count condition in
       let e = members-effort later 0 arms waits signals passed in omega (arith, l, sum, own, e))
       (λ lies more so.
-      let inner = subst (λ l. Lies (labels_of whole) placing.first l) parts (lies-inner (labels_of whole) placing.first placing.goal lies) in
-      (lies-front (labels_of whole) placing.first (labels_of condition) (all_labels arms) inner,
-      members-lie whole later 0 arms waits signals passed (lies-back (labels_of whole) placing.first (labels_of condition) (all_labels arms) inner) more so))
+      let inner = subst (λ l. Lies (labels_of whole) placing.first l) parts (lies-inner (labels_of whole) placing.first placing.goal lies) in (
+        lies-front (labels_of whole) placing.first (labels_of condition) (all_labels arms) inner,
+        members-lie whole later 0 arms waits signals passed (lies-back (labels_of whole) placing.first (labels_of condition) (all_labels arms) inner) more so,
+      ))
       (λ more so. (tt, so))
 
   -- side by side
@@ -195,14 +196,14 @@ module _ (whole : Node) (placing : Placing) (goals : List Node) (sites : List Si
       let parts : Parts list = ap inner_labels (sym is) ∙ joined-all (nodes_of list) ∙ ap all_labels (list-nodes list) in
       record {
         same = conjuncts_same placing list sites sites' tasks tasks' leaves unknown goals
-        ∙ ap (λ g. after_all tasks (with_outcome (at_with goals sites) (entered_as placing g (length sites)))) is;
+            ∙ ap (λ g. after_all tasks (with_outcome (at_with goals sites) (entered_as placing g (length sites)))) is;
         enough = λ enough. subst (λ l. HaveEnough (length goals) l) (sym are)
-        (framed_go placing.goal root before members behind count (length goals) (members-go placing.first 0 (length goals + length before) (length list) list waits signals [] refl)
-        (λ n more so. subst (λ m. HaveEnough (n + m) more) (sym (length-map (outputs_of placing.goal) (right_to 0))) so) tasks enough);
+            (framed_go placing.goal root before members behind count (length goals) (members-go placing.first 0 (length goals + length before) (length list) list waits signals [] refl)
+            (λ n more so. subst (λ m. HaveEnough (n + m) more) (sym (length-map (outputs_of placing.goal) (right_to 0))) so) tasks enough);
         smaller = let e = ap total are in let sum = total-append frame tasks in let f = framed-effort placing.goal root before members behind count refl in
-        let less = members-less list waits signals [] parts in omega (arith, e, sum, f, less);
+            let less = members-less list waits signals [] parts in omega (arith, e, sum, f, less);
         lie = λ lies. subst (λ l. AllLie whole l) (sym are)
-        (framed-lie whole placing.goal root before members behind count (members-lie whole placing.first 0 list waits signals [] (lies-all list parts lies.0)) (λ more so. (tt, so)) tasks lies.1);
+            (framed-lie whole placing.goal root before members behind count (members-lie whole placing.first 0 list waits signals [] (lies-all list parts lies.0)) (λ more so. (tt, so)) tasks lies.1);
       }
 
   pub running_performs : (running : Running) (list : List Node) (sites' : List SiteInfo) (tasks tasks' : List Task) → Conjunction running (nodes_of list) ≡ goal_of placing.goal

@@ -62,10 +62,20 @@ pub(crate) fn place<'a>(
     if !may_fail(placing.goal.category()) {
         return tasks.push(Task::Enter(placing));
     }
-    let Placing { goal, first, waits, signals } = placing;
+    let Placing {
+        goal,
+        first,
+        waits,
+        signals,
+    } = placing;
     leave_wrap(alloc, &goal, signals.as_slice().len(), tasks)?;
     tasks.push(Task::Signals(signals, goal.span()))?;
-    tasks.push(Task::Enter(Placing { goal, first, waits, signals: Sequence::new(alloc) }))
+    tasks.push(Task::Enter(Placing {
+        goal,
+        first,
+        waits,
+        signals: Sequence::new(alloc),
+    }))
 }
 
 /// Leaves what a goal joins, and what stands around it.
@@ -93,7 +103,13 @@ pub(crate) fn enter<'a>(
             leave_whole_switch(alloc, occurrences, placing, variable, symbols, arms, tasks)
         }
         NodeView::Conditional(condition, then_part, else_part) => leave_conditional(
-            alloc, occurrences, placing, condition, then_part, else_part, tasks,
+            alloc,
+            occurrences,
+            placing,
+            condition,
+            then_part,
+            else_part,
+            tasks,
         ),
         NodeView::Negation(inner) => leave_negation(alloc, placing, inner, tasks),
         NodeView::Quantified(own, inner) => leave_quantified(alloc, placing, own, inner, tasks),
@@ -188,7 +204,10 @@ fn leave_quantified<'a>(
 {
     let root = Root::Quantified(own.try_clone(alloc)?);
     tasks.push(Task::Close(relabelled(alloc, &placing.goal, root)?))?;
-    tasks.push(Task::Place(Placing { goal: inner, ..placing }))
+    tasks.push(Task::Place(Placing {
+        goal: inner,
+        ..placing
+    }))
 }
 
 // A list of one goal.
@@ -227,13 +246,25 @@ fn leave_whole<'a>(
 ) -> Result<(), NoMemory>
     ensures { OnOk result (tasks.new ≡ whole_tasks placing.entry root goals.entry.items ++ tasks.old) }
 {
-    let Placing { goal, first, waits, signals } = placing;
+    let Placing {
+        goal,
+        first,
+        waits,
+        signals,
+    } = placing;
     let before = waits.as_slice().len();
     let count = signals.as_slice().len();
     let behind = Task::Signals(signals, goal.span());
     leave_closed(alloc, &goal, root, before, behind, count, tasks)?;
     let members = Members::of(alloc, goals, first)?;
-    leave_members(alloc, members, &Rows::none(alloc), &Rows::none(alloc), &Rows::none(alloc), tasks)?;
+    leave_members(
+        alloc,
+        members,
+        &Rows::none(alloc),
+        &Rows::none(alloc),
+        &Rows::none(alloc),
+        tasks,
+    )?;
     tasks.push(Task::Waits(rights(alloc, waits.as_slice())?, goal.span()))
 }
 
@@ -291,7 +322,12 @@ fn leave_switch<'a>(
     requires { Lies (labels_of occurrences.now) placing.first (all_labels arms) }
     ensures { OnOk result (tasks.new ≡ switch_tasks placing.entry variable symbols.now arms.entry ++ tasks.old) }
 {
-    let Placing { goal, first, waits, signals } = placing;
+    let Placing {
+        goal,
+        first,
+        waits,
+        signals,
+    } = placing;
     let parted = part_by_variable(alloc, variable, waits.as_slice())?;
     let root = Root::Switch(variable, symbols.try_clone(alloc)?);
     let behind = Task::Signals(Sequence::new(alloc), goal.span());
@@ -299,7 +335,15 @@ fn leave_switch<'a>(
     leave_closed(alloc, &goal, root, before, behind, 0, tasks)?;
     let goals = listed(alloc, arms)?;
     let inside = parted.inside.as_slice();
-    leave_arms(alloc, occurrences, goals, first, inside, signals.as_slice(), tasks)?;
+    leave_arms(
+        alloc,
+        occurrences,
+        goals,
+        first,
+        inside,
+        signals.as_slice(),
+        tasks,
+    )?;
     tasks.push(Task::Waits(parted.before, goal.span()))
 }
 
@@ -316,7 +360,12 @@ fn leave_conditional<'a>(
     requires { Lies (labels_of occurrences.now) placing.first (labels_of condition ++ (labels_of then_part ++ labels_of else_part)) }
     ensures { OnOk result (tasks.new ≡ conditional_tasks placing.entry condition.entry then_part.entry else_part.entry ++ tasks.old) }
 {
-    let Placing { goal, first, waits, signals } = placing;
+    let Placing {
+        goal,
+        first,
+        waits,
+        signals,
+    } = placing;
     let past = sum(first, condition.part_count())?;
     let asked = Members::of(alloc, single(alloc, condition.copy())?, first)?;
     let parted = part_by_use(alloc, occurrences, &asked, waits.as_slice())?;
@@ -325,7 +374,15 @@ fn leave_conditional<'a>(
     leave_closed(alloc, &goal, Root::Conditional, before, behind, 0, tasks)?;
     let arms = pair(alloc, then_part, else_part)?;
     let inside = parted.inside.as_slice();
-    leave_arms(alloc, occurrences, arms, past, inside, signals.as_slice(), tasks)?;
+    leave_arms(
+        alloc,
+        occurrences,
+        arms,
+        past,
+        inside,
+        signals.as_slice(),
+        tasks,
+    )?;
     tasks.push(without_rights(alloc, condition, first))?;
     tasks.push(Task::Waits(parted.before, goal.span()))
 }
@@ -357,14 +414,32 @@ fn leave_conjuncts<'a>(
     requires { Lies (labels_of occurrences.now) placing.first (all_labels goals) }
     ensures { OnOk result (LeavesConjuncts placing.entry goals.entry sites.old.items sites.new.items tasks.old tasks.new) }
 {
-    let Placing { goal, first, waits, signals } = placing;
+    let Placing {
+        goal,
+        first,
+        waits,
+        signals,
+    } = placing;
     let members = Members::of(alloc, listed(alloc, goals)?, first)?;
     let parted = part_by_moves(alloc, occurrences, &members, waits.as_slice())?;
     let outputs = goal.outputs().as_slice();
     let mut found = found_at(alloc, occurrences, &members, outputs, signals.as_slice())?;
-    put_moved(alloc, occurrences, &members, parted.inside.as_slice(), &mut found)?;
+    put_moved(
+        alloc,
+        occurrences,
+        &members,
+        parted.inside.as_slice(),
+        &mut found,
+    )?;
     let before = parted.before.as_slice().len();
-    leave_site(alloc, &goal, members.goals.len(), sites.len(), before, tasks)?;
+    leave_site(
+        alloc,
+        &goal,
+        members.goals.len(),
+        sites.len(),
+        before,
+        tasks,
+    )?;
     leave_found(alloc, members, found, tasks, sites)?;
     tasks.push(Task::Waits(parted.before, goal.span()))
 }
@@ -392,7 +467,10 @@ fn parent_waits(alloc: Global, outputs: &[Var]) -> Result<Sequence<Right>, NoMem
 {
     let mut rights = Sequence::new(alloc);
     for variable in outputs {
-        rights.push(Right { variable: *variable, conjunct: 0 })?;
+        rights.push(Right {
+            variable: *variable,
+            conjunct: 0,
+        })?;
     }
     Ok(rights)
 }
@@ -409,7 +487,12 @@ fn leave_found<'a>(
     ensures tasks { OnOk result (tasks.new ≡ member_tasks members.entry.first (shares_of 0 members.entry.goals.items found.waits.items found.signals.items []) ++ tasks.old) }
     ensures sites { OnOk result (sites.new.items ≡ sites.old.items ++ record { children = length members.entry.goals.items; cells = found.cells.items; moves = found.moves.items } ∷ []) }
 {
-    let Found { cells, moves, waits, signals } = found;
+    let Found {
+        cells,
+        moves,
+        waits,
+        signals,
+    } = found;
     sites.push(SiteInfo {
         children: members.goals.len(),
         cells: Sequence::from_vec(cells),
