@@ -1,21 +1,17 @@
 -- What is found at an `&`, conjunct by conjunct.
-use Rattle.std.specs.Prelude.{◌≡◌, ◌==◌, ◌≤◌, ◌<◌, ◌+◌, ◌&&◌, ◌||◌, nat_le, not, ℕ, zero, suc, Bool, true, false, List, [], ◌∷◌, ◌++◌, length, map, refl, if◌then◌else◌}
-use Rattle.std.specs.List.{filter, flat_map, list_any}
-use Rattle.std.proofs.Common.{◌∙◌, ap, sym, subst, arith}
+use Rattle.std.specs.Prelude.{◌≡◌, ◌==◌, ◌≤◌, ◌<◌, ◌+◌, ◌&&◌, nat_le, not, ℕ, suc, Bool, true, false, List, [], ◌∷◌, ◌++◌, length, map, refl, if◌then◌else◌}
+use Rattle.std.specs.List.{filter, flat_map}
+use Rattle.std.proofs.Common.{◌∙◌, ap, sym, arith}
 use Rattle.std.proofs.lemmas.Bool.Decides.{nat_tests}
-use Rattle.std.proofs.lemmas.List.{append_assoc, append-nil, map-append, length-append}
-use Rattle.merc_graded_tree.specs.Nodes.{Node, Nodes, nodes_of, list_of, outputs_of}
+use Rattle.std.proofs.lemmas.List.{append_assoc, append-nil, map-append}
+use Rattle.merc_graded_tree.specs.Nodes.{Node, Nodes, nodes_of, outputs_of}
 use Rattle.merc_graded_tree.specs.Variables.{among, in_node}
-use Rattle.merc_par_split.specs.Members.{uses_it, wait_shares, users_behind, consumers_behind, cells_at, waits_at, signals_at, moves_if, moves_at, move_of}
-use Rattle.merc_par_split.specs.Outcomes.{rights_of, fresh, moves, outcome, side_by_side}
-use Rattle.merc_par_split.specs.Rights.{Right, right_to, those, used_in, with_rights, users, signals_of}
+use Rattle.merc_par_split.specs.Members.{uses_it, wait_shares, consumers_behind, waits_at}
+use Rattle.merc_par_split.specs.Outcomes.{rights_of, fresh, moves}
+use Rattle.merc_par_split.specs.Rights.{right_to, used_in, users}
 use Rattle.merc_par_split.specs.Rows.{row_of, numbers_from, each_from}
-use Rattle.merc_par_split.specs.Sites.{count, consumers, cells_of, are_for, signal_moves, wait_moves}
-use Rattle.merc_par_split.specs.Tasks.{shares_of, shared}
+use Rattle.merc_par_split.specs.Sites.{consumers}
 use Rattle.merc_par_split.specs.declared.rights.Awaited.{Awaited}
-use Rattle.merc_par_split.specs.declared.sites.CellInfo.{CellInfo}
-use Rattle.merc_par_split.specs.declared.sites.Moved.{Moved}
-use Rattle.merc_par_split.specs.declared.sites.SiteInfo.{SiteInfo}
 use Rattle.merc_par_split.proofs.Indexes.{row-append}
 use Rattle.merc_par_split.proofs.ShareLaws.{le-none, flat-those, flat-map-those}
 

@@ -1,14 +1,14 @@
 -- What is left to do for a goal that joins others leads to what comes of it.
-use Rattle.std.specs.Prelude.{◌≡◌, ◌==◌, ◌≤◌, ◌<◌, ◌+◌, ◌*◌, ℕ, zero, suc, List, [], ◌∷◌, ◌++◌, length, map, refl}
+use Rattle.std.specs.Prelude.{◌≡◌, ◌==◌, ◌+◌, ℕ, suc, List, [], ◌∷◌, ◌++◌, length, map, refl}
 use Rattle.std.specs.List.{filter, flat_map}
-use Rattle.std.proofs.Common.{◌∙◌, ap, sym, subst, arith}
+use Rattle.std.proofs.Common.{◌∙◌, ap, sym, arith}
 use Rattle.std.proofs.lemmas.List.{append_assoc, append-nil, length-append, length-map}
 use Rattle.merc_goal_tree.specs.declared.goal.Symbol.{Symbol}
 use Rattle.merc_graded_tree.specs.declared.basic.BasicGoal.{BasicGoal}
 use Rattle.merc_graded_tree.specs.declared.entries.Root.{Root}
 use Rattle.merc_graded_tree.specs.declared.entries.Root.TheVariants.{Conjunction as ConjunctionRoot, Disjunction as DisjunctionRoot, Switch as SwitchRoot, Conditional as ConditionalRoot, Negation as NegationRoot, Quantified as QuantifiedRoot, Basic as BasicRoot}
 use Rattle.merc_graded_tree.specs.declared.entries.Running.TheVariants.{Sequential}
-use Rattle.merc_graded_tree.specs.Nodes.{Node, node, Goal, Basic, Conjunction, Disjunction, Switch, Conditional, Negation, Quantified, Nodes, Arms, more_arms, nodes_of, list_of, goal_of, outputs_of, category_of, span_of}
+use Rattle.merc_graded_tree.specs.Nodes.{Node, node, Goal, Basic, Conjunction, Disjunction, Switch, Conditional, Negation, Quantified, Nodes, Arms, more_arms, nodes_of, list_of, outputs_of, category_of, span_of}
 use Rattle.merc_graded_tree.specs.Roots.{arity_of, arms_of, labelled, last_joined}
 use Rattle.merc_graded_tree.specs.RootLaws.{last_joined_is, nodes_of-list_of}
 use Rattle.merc_graded_tree.specs.Labels.{labels_of}
@@ -16,14 +16,13 @@ use Rattle.merc_graded_tree.specs.Variables.{in_node}
 use Rattle.merc_par_split.specs.Constructs.{whole_tasks, turn_tasks, arm_tasks, switch_tasks, conditional_tasks}
 use Rattle.merc_par_split.specs.Members.{turn_wait, turn_signal, wait_shares, signal_shares, pass_shares}
 use Rattle.merc_par_split.specs.Outcomes.{rights_of, those_waits, others, is_passed, outcome, entered, in_turn, armed, alone}
-use Rattle.merc_par_split.specs.Rights.{Right, wait_at, signal_at, bound_in, between, around, ahead_of}
+use Rattle.merc_par_split.specs.Rights.{Right, wait_at, signal_at, bound_in, around, ahead_of}
 use Rattle.merc_par_split.specs.Rows.{row_of}
-use Rattle.merc_par_split.specs.Tasks.{Progress, with_goals, with_outcome, after, after_all, Share, shares_of, shared, member_tasks, relabelled, framed}
+use Rattle.merc_par_split.specs.Tasks.{Progress, with_goals, with_outcome, after_all, shares_of, shared, member_tasks, relabelled, framed}
 use Rattle.merc_par_split.specs.declared.rights.Awaited.{Awaited}
 use Rattle.merc_par_split.specs.declared.sites.SiteInfo.{SiteInfo}
 use Rattle.merc_par_split.specs.declared.tasks.Placing.{Placing}
-use Rattle.merc_par_split.specs.declared.tasks.Task.{Task}
-use Rattle.merc_par_split.specs.declared.tasks.Task.TheVariants.{Place, Enter, Waits, Signals, Close}
+use Rattle.merc_par_split.specs.declared.tasks.Task.TheVariants.{Place, Signals, Close}
 use Rattle.merc_par_split.proofs.ShareLaws.{turns, chosen, choices, alones}
 use Rattle.merc_par_split.proofs.StepLaws.{at_with, after-append, members_done, framed_done}
 

@@ -1,5 +1,5 @@
 -- Tasks that are left have enough goals, give less to do, and lie where they say.
-use Rattle.std.specs.Prelude.{◌≡◌, ◌≤◌, ◌<◌, ◌+◌, ◌-◌, ◌*◌, ℕ, zero, suc, List, [], ◌∷◌, ◌++◌, length, refl}
+use Rattle.std.specs.Prelude.{◌≡◌, ◌≤◌, ◌+◌, ◌-◌, ◌*◌, ℕ, zero, suc, List, [], ◌∷◌, ◌++◌, length, refl}
 use Rattle.std.proofs.Common.{◌∙◌, ap, sym, subst, arith}
 use Rattle.std.proofs.lemmas.List.{append_assoc, length-append}
 use Rattle.merc_graded_tree.specs.declared.entries.Label.{Label}
@@ -12,7 +12,6 @@ use Rattle.merc_par_split.specs.Rows.{row_of}
 use Rattle.merc_par_split.specs.Tasks.{HaveEnough, effort, total, Lies, AllLie, Share, shares_of, wraps, passing, member_tasks, closed, framed}
 use Rattle.merc_par_split.specs.declared.rights.Awaited.{Awaited}
 use Rattle.merc_par_split.specs.declared.tasks.Task.{Task}
-use Rattle.merc_par_split.specs.declared.tasks.Task.TheVariants.{Place, Enter, Waits, Signals, Close}
 
 -- from so many goals tasks lead to so many
 abbrev pub Goes : ℕ → List Task → ℕ → Type 0

@@ -1,11 +1,11 @@
 -- Numbers by variable: the next one, and which lists they tell of.
-use Rattle.std.specs.Prelude.{◌≡◌, ◌≤◌, ◌<◌, ◌+◌, ◌-◌, ◌==◌, ◌&&◌, ◌||◌, not, nat_le, nat_lt, ℕ, zero, suc, Bool, true, false, List, [], ◌∷◌, ◌++◌, length, take, drop, map, slice_get, slice_index_or, Option, Some, None, refl, if◌then◌else◌}
-use Rattle.std.specs.List.{filter, find, flat_map, list_any}
+use Rattle.std.specs.Prelude.{◌≡◌, ◌≤◌, ◌<◌, ◌+◌, ◌==◌, ◌&&◌, ◌||◌, not, nat_le, nat_lt, ℕ, zero, suc, Bool, true, false, List, [], ◌∷◌, ◌++◌, length, take, drop, map, slice_get, slice_index_or, Option, Some, None, refl, if◌then◌else◌}
+use Rattle.std.specs.List.{filter, find, flat_map}
 use Rattle.std.specs.List.Sorted.{IsNonDecreasing, IsNonDecreasingBy}
 use Rattle.std.specs.Option.{option_map}
 use Rattle.std.proofs.Common.{◌∙◌, ap, sym, subst, arith}
 use Rattle.std.proofs.lemmas.Bool.Decides.{nat_tests}
-use Rattle.std.proofs.lemmas.List.{length-map, append-nil, append_assoc, flat_map_more, get_or_default, take_more, drop_more, drop_all}
+use Rattle.std.proofs.lemmas.List.{length-map, append-nil, append_assoc, flat_map_more, get_or_default, take_more, drop_more}
 use Rattle.merc_graded_tree.specs.Nodes.{Node, outputs_of}
 use Rattle.merc_graded_tree.specs.Variables.{among}
 use Rattle.merc_par_split.specs.Rows.{row_of, next_from, numbers_from, each_from, pairs_from, Tells}

@@ -1,10 +1,10 @@
 -- Rights in the order of the conjuncts.
-use Rattle.std.specs.Prelude.{◌≡◌, ◌≤◌, ◌<◌, ◌+◌, nat_lt, ℕ, zero, suc, Bool, true, false, List, [], ◌∷◌, ◌++◌, length, map, take, drop, slice_index_or, refl, if◌then◌else◌}
+use Rattle.std.specs.Prelude.{◌≡◌, ◌<◌, ◌+◌, ℕ, zero, suc, Bool, true, false, List, [], ◌∷◌, ◌++◌, length, map, take, drop, slice_index_or, refl, if◌then◌else◌}
 use Rattle.std.specs.List.{AllByRecursion, insert}
 use Rattle.std.proofs.Common.{◌∙◌, ap, sym, subst, arith}
 use Rattle.std.proofs.lemmas.Bool.Decides.{nat_tests}
-use Rattle.std.proofs.lemmas.List.{append_assoc, map-append, take_at, take_more, drop_at}
-use Rattle.merc_par_split.specs.Rights.{Right, right_to, is_sooner, with_right, with_rights}
+use Rattle.std.proofs.lemmas.List.{map-append, take_at, take_more, drop_at}
+use Rattle.merc_par_split.specs.Rights.{Right, is_sooner, with_right, with_rights}
 use Rattle.merc_par_split.specs.Ranks.{Rise, FitsAt}
 
 not_sooner : (a b c : ℕ) → is_sooner b a ≡ false → is_sooner c b ≡ false → is_sooner c a ≡ false

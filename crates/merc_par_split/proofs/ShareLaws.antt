@@ -1,8 +1,8 @@
 -- Which rights go to the first of goals that are joined, and which to the goals behind it.
-use Rattle.std.specs.Prelude.{◌≡◌, ◌==◌, ◌+◌, ◌&&◌, ◌||◌, nat_le, not, ℕ, zero, suc, Bool, true, false, List, [], ◌∷◌, ◌++◌, length, map, Option, Some, None, refl, if◌then◌else◌}
+use Rattle.std.specs.Prelude.{◌≡◌, ◌==◌, ◌+◌, ◌&&◌, ◌||◌, nat_le, not, ℕ, suc, Bool, true, false, List, [], ◌∷◌, ◌++◌, length, map, Option, Some, None, refl, if◌then◌else◌}
 use Rattle.std.specs.List.{filter, flat_map}
 use Rattle.std.specs.Option.{is_some, option_map}
-use Rattle.std.proofs.Common.{◌∙◌, ap, sym, subst, arith}
+use Rattle.std.proofs.Common.{◌∙◌, ap, sym, arith}
 use Rattle.std.proofs.lemmas.Bool.Decides.{nat_tests}
 use Rattle.merc_graded_tree.specs.Nodes.{Node, Nodes, no_nodes, more_nodes, Arms, no_arms, more_arms, list_of, outputs_of}
 use Rattle.merc_graded_tree.specs.Roots.{bodies_of}
@@ -11,7 +11,7 @@ use Rattle.merc_par_split.specs.Members.{uses_it, binds_it, spared, turn_wait_at
 use Rattle.merc_par_split.specs.Outcomes.{rights_of, those_waits, others, turned, is_passed, outcome, in_turn, armed, alone}
 use Rattle.merc_par_split.specs.Rights.{Right, bound_in, unbound_in, ahead_of}
 use Rattle.merc_par_split.specs.Rows.{row_of, next_from, numbers_from}
-use Rattle.merc_par_split.specs.Tasks.{Share, shares_of, shared}
+use Rattle.merc_par_split.specs.Tasks.{shares_of, shared}
 use Rattle.merc_par_split.specs.declared.rights.Awaited.{Awaited}
 use Rattle.merc_par_split.specs.declared.sites.SiteInfo.{SiteInfo}
 use Rattle.merc_par_split.proofs.Indexes.{row-append}

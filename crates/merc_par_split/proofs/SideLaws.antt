@@ -1,29 +1,28 @@
 -- What is left to do for conjuncts leads to what comes of them side by side.
-use Rattle.std.specs.Prelude.{◌≡◌, ◌+◌, ℕ, zero, suc, Bool, true, false, List, [], ◌∷◌, ◌++◌, length, map, Option, Some, None, refl, if◌then◌else◌}
+use Rattle.std.specs.Prelude.{◌≡◌, ◌+◌, ℕ, suc, Bool, true, false, List, [], ◌∷◌, ◌++◌, length, map, Option, Some, refl, if◌then◌else◌}
 use Rattle.std.specs.List.{filter, flat_map}
-use Rattle.std.proofs.Common.{◌∙◌, ap, sym, subst, arith}
+use Rattle.std.proofs.Common.{◌∙◌, ap, sym, arith}
 use Rattle.std.proofs.lemmas.List.{append_assoc, append-nil, map-append, length-append, length-map}
 use Rattle.merc_base.specs.declared.place.Span.{Span}
 use Rattle.merc_graded_tree.specs.declared.basic.Site.{Site}
-use Rattle.merc_graded_tree.specs.declared.entries.Root.{Root}
 use Rattle.merc_graded_tree.specs.declared.entries.Root.TheVariants.{Conjunction as ConjunctionRoot}
-use Rattle.merc_graded_tree.specs.declared.entries.Running.TheVariants.{Sequential, Parallel}
-use Rattle.merc_graded_tree.specs.Nodes.{Node, node, Conjunction, Nodes, nodes_of, list_of, outputs_of, category_of, span_of}
+use Rattle.merc_graded_tree.specs.declared.entries.Running.TheVariants.{Parallel}
+use Rattle.merc_graded_tree.specs.Nodes.{Node, node, Conjunction, nodes_of, list_of, outputs_of, category_of, span_of}
 use Rattle.merc_graded_tree.specs.Roots.{labelled}
 use Rattle.merc_graded_tree.specs.RootLaws.{nodes_of-list_of}
 use Rattle.merc_graded_tree.specs.Variables.{in_node}
 use Rattle.merc_par_split.specs.Constructs.{LeavesConjuncts, site_tasks}
 use Rattle.merc_par_split.specs.Members.{wait_shares, waits_at, signals_at, move_of}
-use Rattle.merc_par_split.specs.Outcomes.{rights_of, fresh, moves, stays, outcome, entered, side_by_side}
+use Rattle.merc_par_split.specs.Outcomes.{rights_of, fresh, moves, stays, outcome, side_by_side}
 use Rattle.merc_par_split.specs.Rights.{Right, right_to, used_in, signals_of, wait_at, between}
 use Rattle.merc_par_split.specs.Rows.{row_of, each_from}
 use Rattle.merc_par_split.specs.Sites.{site_info, count, cells_of, signal_moves, are_for}
-use Rattle.merc_par_split.specs.Tasks.{Progress, with_goals, with_outcome, after_all, shares_of, shared, member_tasks, relabelled, framed, closed}
+use Rattle.merc_par_split.specs.Tasks.{with_outcome, after_all, shares_of, shared, member_tasks, relabelled, framed}
 use Rattle.merc_par_split.specs.declared.rights.Awaited.{Awaited}
 use Rattle.merc_par_split.specs.declared.sites.SiteInfo.{SiteInfo}
 use Rattle.merc_par_split.specs.declared.tasks.Placing.{Placing}
 use Rattle.merc_par_split.specs.declared.tasks.Task.{Task}
-use Rattle.merc_par_split.specs.declared.tasks.Task.TheVariants.{Waits, Close}
+use Rattle.merc_par_split.specs.declared.tasks.Task.TheVariants.{Waits}
 use Rattle.merc_par_split.proofs.Indexes.{row-append}
 use Rattle.merc_par_split.proofs.ShareLaws.{outcome-same}
 use Rattle.merc_par_split.proofs.StepLaws.{at_with, after-append, members_done, framed_done}

@@ -1,14 +1,14 @@
 -- What tasks lead to.
-use Rattle.std.specs.Prelude.{◌≡◌, ◌==◌, ◌≤◌, ◌<◌, ◌+◌, ◌-◌, ◌*◌, ℕ, zero, suc, Bool, true, false, List, [], ◌∷◌, ◌++◌, length, map, Option, Some, None, refl, if◌then◌else◌}
+use Rattle.std.specs.Prelude.{◌≡◌, ◌==◌, ◌+◌, ℕ, zero, suc, Bool, true, false, List, [], ◌∷◌, ◌++◌, length, map, Option, Some, refl, if◌then◌else◌}
 use Rattle.std.specs.List.{filter}
-use Rattle.std.proofs.Common.{◌∙◌, ap, sym, subst, arith}
+use Rattle.std.proofs.Common.{◌∙◌, ap, sym, arith}
 use Rattle.std.proofs.lemmas.List.{append_assoc, append-nil, length-append, length-map}
 use Rattle.merc_base.specs.declared.category.Category.{Category}
 use Rattle.merc_base.specs.declared.place.Span.{Span}
 use Rattle.merc_graded_tree.specs.declared.entries.Root.{Root}
 use Rattle.merc_graded_tree.specs.declared.entries.Root.TheVariants.{Conjunction as ConjunctionRoot}
 use Rattle.merc_graded_tree.specs.declared.entries.Running.TheVariants.{Sequential, Parallel}
-use Rattle.merc_graded_tree.specs.Nodes.{Node, node, Goal, Basic, Conjunction, Disjunction, Switch, Conditional, Negation, Quantified, nodes_of, goal_of, outputs_of, category_of, span_of}
+use Rattle.merc_graded_tree.specs.Nodes.{Node, node, Goal, Basic, Conjunction, Disjunction, Switch, Conditional, Negation, Quantified, nodes_of, outputs_of, category_of, span_of}
 use Rattle.merc_graded_tree.specs.Labels.{labels_of}
 use Rattle.merc_graded_tree.specs.Roots.{arity_of, last_joined, labelled}
 use Rattle.merc_graded_tree.specs.RootLaws.{last_joined_is}
@@ -16,11 +16,11 @@ use Rattle.merc_par_split.specs.Rights.{Right, right_to, wait_at, signal_at, bet
 use Rattle.merc_graded_tree.specs.Variables.{in_node}
 use Rattle.merc_par_split.specs.Split.{may_fail}
 use Rattle.merc_par_split.specs.Outcomes.{rights_of, those_waits, others, moves, stays, is_passed, outcome, entered, side_by_side, armed, alone}
-use Rattle.merc_par_split.specs.Tasks.{Progress, with_goals, with_outcome, after, after_all, Share, shared, relabelled, wraps, passing, member_tasks, closed, framed}
+use Rattle.merc_par_split.specs.Tasks.{Progress, with_goals, after, after_all, Share, shared, relabelled, wraps, passing, member_tasks, framed}
 use Rattle.merc_par_split.specs.declared.rights.Awaited.{Awaited}
 use Rattle.merc_par_split.specs.declared.sites.SiteInfo.{SiteInfo}
 use Rattle.merc_par_split.specs.declared.tasks.Task.{Task}
-use Rattle.merc_par_split.specs.declared.tasks.Task.TheVariants.{Place, Enter, Waits, Signals, Close}
+use Rattle.merc_par_split.specs.declared.tasks.Task.TheVariants.{Close}
 
 abbrev pub at_with : List Node → List SiteInfo → Progress
 at_with goals sites = record { goals = goals; sites = sites }

@@ -1,11 +1,11 @@
 -- Which of the goals that a goal joins the rights go to that it has.
-use Rattle.std.specs.Prelude.{◌≡◌, ℕ, zero, suc, Bool, true, false, not, ◌&&◌, nat_le, length, List, [], ◌∷◌, ◌++◌, map, Option, Some, None, if◌then◌else◌}
+use Rattle.std.specs.Prelude.{◌≡◌, ℕ, suc, Bool, true, false, not, nat_le, length, List, [], ◌∷◌, ◌++◌, map, Option, Some, None, if◌then◌else◌}
 use Rattle.std.specs.List.{filter, flat_map}
 use Rattle.std.specs.Option.{is_some}
 use Rattle.merc_graded_tree.specs.Nodes.{Node, outputs_of}
 use Rattle.merc_graded_tree.specs.Labels.{labels_of, all_labels}
 use Rattle.merc_graded_tree.specs.Variables.{among, in_node}
-use Rattle.merc_par_split.specs.Rights.{Right, right_to, with_rights, those}
+use Rattle.merc_par_split.specs.Rights.{Right, right_to, with_rights}
 use Rattle.merc_par_split.specs.Rows.{row_of, next_from, numbers_from, each_from}
 use Rattle.merc_par_split.specs.Outcomes.{fresh}
 use Rattle.merc_par_split.specs.Tasks.{Lies, starts_of}

@@ -1,6 +1,5 @@
 -- Items by number, and the numbers of such items of a list.
 use Rattle.std.specs.Prelude.{◌≡◌, ◌==◌, ◌&&◌, nat_le, ℕ, suc, Bool, List, [], ◌∷◌, ◌++◌, map, Option, Some, None, if◌then◌else◌}
-use Rattle.merc_graded_tree.specs.Variables.{among}
 
 -- the items of a number, in order
 abbrev pub row_of : {X : Type 0} → ℕ → List (ℕ × X) → List X

@@ -1,13 +1,12 @@
 -- What is to be done to split goals, and what comes of it. The first of a list of tasks comes first.
 use Rattle.std.specs.Prelude.{◌≡◌, ◌≤◌, ◌<◌, ℕ, zero, suc, ◌+◌, ◌-◌, ◌*◌, List, [], ◌∷◌, ◌++◌, length, map, if◌then◌else◌}
-use Rattle.merc_base.specs.declared.place.Span.{Span}
 use Rattle.merc_graded_tree.specs.declared.entries.Label.{Label}
 use Rattle.merc_graded_tree.specs.declared.entries.Root.{Root}
 use Rattle.merc_graded_tree.specs.declared.entries.Root.TheVariants.{Conjunction}
 use Rattle.merc_graded_tree.specs.declared.entries.Running.TheVariants.{Sequential}
 use Rattle.merc_graded_tree.specs.Nodes.{Node, goal_of, outputs_of, category_of, span_of}
 use Rattle.merc_graded_tree.specs.Roots.{last_joined, arity_of}
-use Rattle.merc_graded_tree.specs.Labels.{labels_of, inner_labels, all_labels}
+use Rattle.merc_graded_tree.specs.Labels.{labels_of, inner_labels}
 use Rattle.merc_par_split.specs.Rights.{Right, wait_at, signal_at, ahead_of}
 use Rattle.merc_par_split.specs.Split.{may_fail}
 use Rattle.merc_par_split.specs.Rows.{row_of}

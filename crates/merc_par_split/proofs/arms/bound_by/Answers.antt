@@ -1,7 +1,7 @@
-use Rattle.std.proofs.Common.{◌∙◌, ap, sym, subst, arith, map, length, ◌∷◌, [], ◌++◌, nat_le, ◌<◌}
+use Rattle.std.proofs.Common.{sym, subst, length, nat_le, ◌<◌}
 use Rattle.std.specs.List.{filter}
 use Rattle.merc_par_split.specs.Members.{binds_it}
-use Rattle.merc_par_split.specs.Rows.{next_from, row_of}
+use Rattle.merc_par_split.specs.Rows.{row_of}
 use Rattle.merc_par_split.proofs.Indexes.{falls, next_binder, walk_on, walk_over}
 use Rattle.merc_par_split.proofs.arms.bound_by.Goals as goal
 

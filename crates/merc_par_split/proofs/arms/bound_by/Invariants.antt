@@ -1,8 +1,8 @@
-use Rattle.std.proofs.Common.{List, ◌≡◌, ◌++◌, ◌∷◌, [], ◌+◌, ℕ, suc, map, take, drop, length, nat_le}
-use Rattle.std.specs.List.{filter, flat_map}
+use Rattle.std.proofs.Common.{List, ◌≡◌, ◌++◌, map, length, nat_le}
+use Rattle.std.specs.List.{filter}
 use Rattle.merc_graded_tree.specs.Nodes.{Node, outputs_of}
-use Rattle.merc_par_split.specs.Rows.{numbers_from, each_from, row_of, Tells}
-use Rattle.merc_par_split.specs.Members.{spared, binds_it}
+use Rattle.merc_par_split.specs.Rows.{numbers_from, row_of, Tells}
+use Rattle.merc_par_split.specs.Members.{binds_it}
 use Rattle.merc_par_split.proofs.arms.bound_by.Given as goal
 
 abbrev pub invariant-loop-next : goal.invariant-loop-next

@@ -1,4 +1,3 @@
-use Rattle.std.proofs.Common.{◌∙◌}
 use Rattle.merc_par_split.specs.Members.{uses_it}
 use Rattle.merc_par_split.proofs.MemberLaws.{next_here, next_not}
 use Rattle.merc_par_split.proofs.arms.is_user.Goals as goal

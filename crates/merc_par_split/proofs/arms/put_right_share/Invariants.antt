@@ -1,8 +1,4 @@
-use Rattle.std.proofs.Common.{List, ◌≡◌, ◌++◌, ◌∷◌, [], ◌+◌, ℕ, suc, map, take, drop, length, nat_le}
-use Rattle.std.specs.List.{filter, flat_map}
-use Rattle.merc_graded_tree.specs.Nodes.{Node, outputs_of}
-use Rattle.merc_par_split.specs.Rows.{numbers_from, each_from, row_of, Tells}
-use Rattle.merc_par_split.specs.Members.{spared, binds_it}
+use Rattle.std.proofs.Common.{◌≡◌, ◌++◌, map, take}
 use Rattle.merc_par_split.proofs.arms.put_right_share.Given as goal
 
 abbrev pub invariant-loop-number : goal.invariant-loop-number

@@ -1,4 +1,4 @@
-use Rattle.std.proofs.Common.{◌≡◌, ◌++◌, ◌∷◌, [], ℕ, suc, map, take}
+use Rattle.std.proofs.Common.{◌≡◌, ◌++◌, map, take}
 use Rattle.merc_par_split.proofs.arms.put_share.Given as goal
 
 abbrev pub invariant-loop-user : goal.invariant-loop-user

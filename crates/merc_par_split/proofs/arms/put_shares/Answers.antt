@@ -1,4 +1,4 @@
-use Rattle.std.proofs.Common.{◌∙◌, ap, sym, map, ◌++◌}
+use Rattle.std.proofs.Common.{◌∙◌, ap, map, ◌++◌}
 use Rattle.merc_par_split.specs.Members.{wait_shares, uses_it}
 use Rattle.merc_par_split.specs.Rows.{numbers_from}
 use Rattle.merc_par_split.specs.declared.rights.Awaited.{Awaited}

@@ -1,4 +1,4 @@
-use Rattle.std.proofs.Common.{◌∙◌, ap, sym, not, ◌∷◌, [], ◌++◌, if◌then◌else◌, Bool, slice_index_or, length, arith, refl, ◌≡◌}
+use Rattle.std.proofs.Common.{◌∙◌, ap, not, ◌∷◌, [], length, arith}
 use Rattle.merc_par_split.specs.Members.{spared}
 use Rattle.merc_par_split.proofs.Indexes.{step_at, unless_is}
 use Rattle.merc_par_split.proofs.arms.spared_by.Goals as goal

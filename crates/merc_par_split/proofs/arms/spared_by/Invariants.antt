@@ -1,8 +1,6 @@
-use Rattle.std.proofs.Common.{List, ◌≡◌, ◌++◌, ◌∷◌, [], ◌+◌, ℕ, suc, map, take, drop, length, nat_le}
-use Rattle.std.specs.List.{filter, flat_map}
-use Rattle.merc_graded_tree.specs.Nodes.{Node, outputs_of}
-use Rattle.merc_par_split.specs.Rows.{numbers_from, each_from, row_of, Tells}
-use Rattle.merc_par_split.specs.Members.{spared, binds_it}
+use Rattle.std.proofs.Common.{◌≡◌, ◌++◌, map, drop}
+use Rattle.merc_par_split.specs.Rows.{numbers_from}
+use Rattle.merc_par_split.specs.Members.{spared}
 use Rattle.merc_par_split.proofs.arms.spared_by.Given as goal
 
 abbrev pub invariant-loop-number : goal.invariant-loop-number

@@ -1,4 +1,4 @@
-use Rattle.std.proofs.Common.{◌≡◌, ◌++◌, ◌∷◌, [], ℕ, suc, map, take}
+use Rattle.std.proofs.Common.{◌≡◌, suc, map, take}
 use Rattle.merc_par_split.proofs.conjuncts.consumers.Given as goal
 
 abbrev pub invariant-loop-user : goal.invariant-loop-user

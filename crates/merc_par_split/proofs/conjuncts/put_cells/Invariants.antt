@@ -1,4 +1,4 @@
-use Rattle.std.proofs.Common.{◌≡◌, ◌++◌, ◌∷◌, [], ℕ, suc, map, take}
+use Rattle.std.proofs.Common.{◌≡◌, ◌++◌, map, take}
 use Rattle.merc_par_split.proofs.conjuncts.put_cells.Given as goal
 
 abbrev pub invariant-loop-consumer : goal.invariant-loop-consumer

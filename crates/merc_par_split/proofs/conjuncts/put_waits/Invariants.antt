@@ -1,4 +1,4 @@
-use Rattle.std.proofs.Common.{◌≡◌, ◌++◌, ◌∷◌, [], ℕ, suc, map, take}
+use Rattle.std.proofs.Common.{◌≡◌, ◌++◌, suc, map, take}
 use Rattle.merc_par_split.specs.Outcomes.{fresh}
 use Rattle.merc_par_split.specs.Rights.{right_to}
 use Rattle.merc_par_split.proofs.conjuncts.put_waits.Given as goal

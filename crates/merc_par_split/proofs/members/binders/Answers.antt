@@ -1,4 +1,4 @@
-use Rattle.std.proofs.Common.{◌∙◌, ap, sym, subst, arith, length, map, take, ◌≡◌, ◌++◌, ◌+◌}
+use Rattle.std.proofs.Common.{◌∙◌, ap, sym, arith, map, take, ◌++◌, ◌+◌}
 use Rattle.std.proofs.lemmas.List.{take_all, take-map}
 use Rattle.std.proofs.lemmas.Result.{IfOk-weaker}
 use Rattle.merc_graded_tree.specs.Nodes.{outputs_of}

@@ -1,6 +1,5 @@
-use Rattle.std.proofs.Common.{◌≡◌, ◌++◌, ◌∷◌, [], ℕ, suc, map, take}
-use Rattle.merc_par_split.specs.Rows.{pairs_from, each_from, numbers_from}
-use Rattle.merc_par_split.specs.Uses.{uses_of}
+use Rattle.std.proofs.Common.{◌≡◌, map, take}
+use Rattle.merc_par_split.specs.Rows.{pairs_from}
 use Rattle.merc_graded_tree.specs.Nodes.{outputs_of}
 use Rattle.merc_par_split.proofs.members.binders.Given as goal
 

@@ -1,4 +1,4 @@
-use Rattle.std.proofs.Common.{◌∙◌, ◌≡◌, ◌∷◌, ◌++◌, [], length, ap, sym}
+use Rattle.std.proofs.Common.{◌∙◌, ◌≡◌, ◌∷◌, ◌++◌, [], length, ap}
 use Rattle.std.proofs.lemmas.List.{append_assoc}
 use Rattle.merc_par_split.proofs.Leaving.{start_here, next_member}
 use Rattle.merc_par_split.proofs.members.leave_members.Goals as goal

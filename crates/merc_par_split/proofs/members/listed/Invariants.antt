@@ -1,8 +1,4 @@
-use Rattle.std.proofs.Common.{◌≡◌, ◌++◌, ◌∷◌, [], ℕ, suc, map, take, drop, reverse, length}
-use Rattle.merc_graded_tree.specs.Nodes.{outputs_of}
-use Rattle.merc_graded_tree.specs.Variables.{in_node}
-use Rattle.merc_par_split.specs.Rows.{numbers_from, pairs_from}
-use Rattle.merc_par_split.specs.Tasks.{starts_of}
+use Rattle.std.proofs.Common.{◌≡◌, ◌++◌, reverse, length}
 use Rattle.merc_par_split.proofs.members.listed.Given as goal
 
 abbrev pub invariant-loop-last : goal.invariant-loop-last

@@ -1,7 +1,4 @@
-use Rattle.std.proofs.Common.{◌≡◌, ◌++◌, ◌∷◌, [], ℕ, suc, map, take, drop, reverse}
-use Rattle.merc_graded_tree.specs.Nodes.{outputs_of}
-use Rattle.merc_graded_tree.specs.Variables.{in_node}
-use Rattle.merc_par_split.specs.Rows.{numbers_from, pairs_from}
+use Rattle.std.proofs.Common.{◌≡◌, ◌++◌, drop}
 use Rattle.merc_par_split.specs.Tasks.{starts_of}
 use Rattle.merc_par_split.proofs.members.starts.Given as goal
 

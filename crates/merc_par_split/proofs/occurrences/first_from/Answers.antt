@@ -1,4 +1,4 @@
-use Rattle.std.proofs.Common.{nat_lt, nat_le, arith, rules, ◌∙◌}
+use Rattle.std.proofs.Common.{nat_lt, arith, rules, ◌∙◌}
 use Rattle.std.proofs.lemmas.List.Sorted.{IsPartitionPoint-from_clause, IsPartitionedBy-ltb}
 use Rattle.merc_par_split.proofs.Indexes.{found_at}
 use Rattle.merc_par_split.proofs.occurrences.first_from.Goals as goal

@@ -1,8 +1,7 @@
-use Rattle.std.proofs.Common.{arith, ◌∙◌, ap, sym, subst, ◌+◌, take, ◌≡◌}
+use Rattle.std.proofs.Common.{arith, ◌∙◌, ap, sym}
 use Rattle.std.specs.Option.{option_map}
 use Rattle.merc_graded_tree.specs.Labels.{labels_of}
-use Rattle.merc_par_split.specs.Rows.{pairs_from}
-use Rattle.merc_par_split.specs.Uses.{uses, uses_of}
+use Rattle.merc_par_split.specs.Uses.{uses}
 use Rattle.merc_par_split.proofs.Indexes.{pairs_more, pairs_none}
 use Rattle.merc_par_split.proofs.occurrences.part_pairs.Goals as goal
 use Rattle.merc_par_split.proofs.occurrences.part_pairs.Goals.{in-Some+in_ok-put_root, in_default}

@@ -1,4 +1,4 @@
-use Rattle.std.proofs.Common.{◌≡◌, ◌++◌, ◌∷◌, [], ℕ, suc, map, take}
+use Rattle.std.proofs.Common.{◌≡◌, ◌++◌, map, take}
 use Rattle.merc_par_split.proofs.occurrences.put_all.Given as goal
 
 abbrev pub invariant-loop-variable : goal.invariant-loop-variable

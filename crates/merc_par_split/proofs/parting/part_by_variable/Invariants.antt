@@ -1,8 +1,5 @@
-use Rattle.std.proofs.Common.{◌≡◌, ◌++◌, ◌∷◌, [], ◌==◌, take}
-use Rattle.std.specs.List.{filter}
-use Rattle.merc_graded_tree.specs.Nodes.{Node, nodes_of}
-use Rattle.merc_graded_tree.specs.Variables.{in_node}
-use Rattle.merc_par_split.specs.Outcomes.{moves, others, rights_of, stays, those_waits}
+use Rattle.std.proofs.Common.{◌≡◌, ◌==◌, take}
+use Rattle.merc_par_split.specs.Outcomes.{others, rights_of, those_waits}
 use Rattle.merc_par_split.proofs.parting.part_by_variable.Given as goal
 
 abbrev pub invariant-loop-wait : goal.invariant-loop-wait

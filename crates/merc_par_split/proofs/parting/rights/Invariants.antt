@@ -1,4 +1,4 @@
-use Rattle.std.proofs.Common.{◌≡◌, ◌++◌, ◌∷◌, [], ℕ, suc, map, take}
+use Rattle.std.proofs.Common.{◌≡◌, take}
 use Rattle.merc_par_split.specs.Outcomes.{rights_of}
 use Rattle.merc_par_split.proofs.parting.rights.Given as goal
 

@@ -1,4 +1,4 @@
-use Rattle.std.proofs.Common.{◌∙◌, ap, sym, subst, refl, ◌≡◌, ◌++◌}
+use Rattle.std.proofs.Common.{sym, subst, refl}
 use Rattle.std.proofs.lemmas.Result.{on_ok_weaker}
 use Rattle.merc_par_split.specs.Constructs.{LeavesRunning}
 use Rattle.merc_par_split.proofs.placing.leave_conjunction.Goals as goal

@@ -1,4 +1,4 @@
-use Rattle.std.proofs.Common.{◌≡◌, ◌++◌, ◌∷◌, [], ℕ, suc, map, take}
+use Rattle.std.proofs.Common.{◌≡◌, map, take}
 use Rattle.merc_par_split.specs.Rights.{right_to}
 use Rattle.merc_par_split.proofs.placing.parent_waits.Given as goal
 

@@ -1,5 +1,4 @@
-use Rattle.std.proofs.Common.{◌∙◌, ap, sym, subst}
-use Rattle.std.specs.List.{insert}
+use Rattle.std.proofs.Common.{sym, subst}
 use Rattle.merc_par_split.specs.Rights.{Right}
 use Rattle.merc_par_split.specs.Ranks.{Rise, FitsAt}
 use Rattle.merc_par_split.proofs.RankLaws.{put_is, rise_with}

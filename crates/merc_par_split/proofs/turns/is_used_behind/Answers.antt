@@ -1,4 +1,4 @@
-use Rattle.std.proofs.Common.{◌∙◌, ap, sym, suc, arith, length}
+use Rattle.std.proofs.Common.{ap, sym, suc, arith, length}
 use Rattle.std.specs.Option.{is_some}
 use Rattle.merc_par_split.specs.Members.{uses_it}
 use Rattle.merc_par_split.proofs.MemberLaws.{past_all}

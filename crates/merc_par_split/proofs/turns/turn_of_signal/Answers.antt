@@ -1,5 +1,4 @@
-use Rattle.std.proofs.Common.{◌∙◌, ap, sym, map, ◌∷◌, []}
-use Rattle.merc_graded_tree.specs.Nodes.{outputs_of}
+use Rattle.std.proofs.Common.{◌∙◌, ap, ◌∷◌, []}
 use Rattle.merc_par_split.specs.Members.{turn_signal_at, binds_it}
 use Rattle.merc_par_split.specs.Rights.{Right}
 use Rattle.merc_par_split.specs.Rows.{next_from}

@@ -1,4 +1,4 @@
-use Rattle.std.proofs.Common.{◌∙◌, ap, sym, refl}
+use Rattle.std.proofs.Common.{◌∙◌, ap}
 use Rattle.merc_par_split.specs.Members.{turn_wait_at, uses_it}
 use Rattle.merc_par_split.specs.Rows.{next_from}
 use Rattle.merc_par_split.specs.declared.rights.Awaited.{Awaited}

@@ -1,6 +1,5 @@
-use Rattle.std.proofs.Common.{◌∙◌, ap, sym, arith}
+use Rattle.std.proofs.Common.{arith}
 use Rattle.merc_graded_tree.specs.Variables.{in_node}
-use Rattle.merc_par_split.specs.Rows.{numbers_from}
 use Rattle.merc_par_split.proofs.Indexes.{walks, walk_on, walk_over}
 use Rattle.merc_par_split.proofs.members.Members.users.Goals as goal
 

@@ -1,4 +1,3 @@
-use Rattle.std.proofs.Common.{ap, sym, ◌∙◌}
 use Rattle.merc_par_split.specs.Rows.{row_of}
 use Rattle.merc_par_split.proofs.Indexes.{row_rises}
 use Rattle.merc_par_split.proofs.occurrences.Index.next.Goals as goal

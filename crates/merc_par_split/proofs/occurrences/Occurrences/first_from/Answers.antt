@@ -1,4 +1,4 @@
-use Rattle.std.proofs.Common.{ap, sym, ◌∙◌}
+use Rattle.std.proofs.Common.{ap, ◌∙◌}
 use Rattle.merc_graded_tree.specs.Variables.{among}
 use Rattle.merc_par_split.specs.Rows.{next_from}
 use Rattle.merc_par_split.specs.Uses.{uses_of}

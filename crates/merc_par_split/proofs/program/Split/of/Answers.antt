@@ -1,4 +1,3 @@
-use Rattle.std.proofs.Common.{◌++◌, ap, sym, ◌∙◌, arith}
 use Rattle.merc_par_split.proofs.PlannedCounts.{trees_more, sites_more, first_left}
 use Rattle.merc_par_split.proofs.program.Split.of.Goals as goal
 
