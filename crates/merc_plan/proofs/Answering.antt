@@ -1,6 +1,6 @@
 -- Courses that answer, by test; and what is given behind conjuncts.
 use Rattle.std.proofs.Common.{◌≡◌, Bool, true, false, ◌&&◌, if◌then◌else◌, List, [], refl, ap}
-use Rattle.std.specs.Prelude.{Option, None}
+use Rattle.std.specs.Prelude.{None}
 use Rattle.merc_plan.specs.Branch.{Hold, BranchCourse, Over, Breaks, Steps, Finds, Awaits, Gives, Forks, BranchCourses, no_branches, more_branches, Gift, gift_at, does_answer, all_do_answer}
 use Rattle.merc_plan.proofs.Flat.{Flat, Done, Halts, Tick, Answer, Answers, behind}
 use Rattle.merc_plan.proofs.Judging.{flat, flats, AllAnswer}

@@ -1,5 +1,5 @@
 -- Courses with their conjuncts one behind the other: steps and answers in order, and how they end. A is what an answer gives.
-use Rattle.std.proofs.Common.{◌≡◌, ℕ, zero, suc, ◌+◌, Bool, true, false, List, [], ◌∷◌, Option, Some, None}
+use Rattle.std.proofs.Common.{◌≡◌, ℕ, zero, suc, Bool, true, false}
 use Rattle.std.specs.Prelude.{⊤}
 use Rattle.merc_meaning.specs.Trace.{Env, Trace, Ends as TraceEnds, Tick as TraceTick, Answer as TraceAnswer, Done as TraceDone, Raised as TraceRaised, TooDeep as TraceTooDeep}
 use Rattle.merc_script.specs.declared.outcome.Outcome.{Outcome}

@@ -6,20 +6,20 @@ use Rattle.merc_value.specs.Value.{Value}
 use Rattle.merc_script.specs.declared.outcome.Outcome.{Outcome}
 use Rattle.merc_script.specs.declared.outcome.Outcome.TheVariants.{Ok as Fine, Raise, Limit, Starved, NoMemory}
 use Rattle.merc_script.specs.declared.cells.Move.{Move}
-use Rattle.merc_script.specs.Script.{Script, Ends, TickThen, WaitThen, SignalThen, ForkThen, Children, NoChild, Child, Cell, ends, end_of, count}
+use Rattle.merc_script.specs.Script.{Script, Ends, Children, Cell, ends, end_of, count}
 use Rattle.merc_script.specs.Joining.{joined, walk}
-use Rattle.merc_core.specs.Rights.{has, without, numbers_of, is_kind, moved, moved_to, made_by, used_by, signals_at, waits_at, signals_behind}
-use Rattle.merc_core.specs.WellFormed.{AreDistinct, ForkFits, CellFits, MoveFits, held_of, EndsWell, Follows, gain, value_in, most_steps, most_children}
+use Rattle.merc_core.specs.Rights.{has, without, numbers_of, is_kind, moved, moved_to, made_by, used_by, signals_at, waits_at}
+use Rattle.merc_core.specs.WellFormed.{AreDistinct, ForkFits, CellFits, MoveFits, held_of, Follows, gain, value_in, most_steps, most_children}
 use Rattle.merc_plan.specs.Branch.{all_do_answer, NamedCell, Fork, Hold, BranchCourse, Over, Breaks, Steps, Finds, Awaits, Gives, Forks, BranchCourses, no_branches, more_branches, Raised, TooDeep, Starving, names, Gift, gift_at, gifts_through, value_given, gives, all_give}
 use Rattle.merc_plan.specs.BranchScript.{those_of, signalled, all_signalled, valued, going, script, scripts}
 use Rattle.merc_plan.proofs.Flat.{Flat, Done, Halts, Tick, Answer, Answers, behind}
 use Rattle.merc_plan.proofs.Answering.{all_behind}
-use Rattle.merc_plan.proofs.Judging.{flat, flats, AllAnswer, kid_count, makes, uses, signals_to, waits_to, NamedFits, MoveGoes, HoldsRight, SiteFits, OwnFits, Whole, anything, Keeps, AllKeep, Quiet, told_values, NamesFit, NamedFormed, AllNamedFormed}
+use Rattle.merc_plan.proofs.Judging.{flat, flats, AllAnswer, kid_count, makes, uses, signals_to, waits_to, NamedFits, MoveGoes, HoldsRight, SiteFits, Whole, anything, Keeps, AllKeep, Quiet, told_values, NamesFit, NamedFormed, AllNamedFormed}
 use Rattle.merc_plan.proofs.Walks.{WithinLimit, joined_limit, HasMemory, walk_has}
 use Rattle.merc_plan.proofs.Joins.{kids_memory, joined_is_walk, going_fine, walk_fine}
 use Rattle.merc_plan.proofs.Holds.{kid_proper, names_of_made, waits_past, pending_past, waits_more, own_fits, no_gone}
 use Rattle.merc_plan.proofs.Gives.{Within, AllWithin, within_gives}
-use Rattle.merc_plan.proofs.Sets.{clash, tell, same_number, is_same, only_one, front_or, or_in, first_in, rest_in, in_common, common_in, in_either, in_left, in_right, minus_in, minus_keeps, minus_more, append_more, absent, gone_not, not_one, look_before, look_past, look_same, look_none, some_now, gifts_in, gifts_out, given_here, given_other, and_both, all_pass, picked, moved_move, moved_to_move, moved_of_to, each_more, each_true}
+use Rattle.merc_plan.proofs.Sets.{clash, tell, same_number, is_same, only_one, front_or, or_in, first_in, rest_in, in_common, common_in, in_either, in_left, in_right, minus_in, minus_keeps, minus_more, append_more, absent, gone_not, look_before, look_past, look_same, look_none, some_now, gifts_in, gifts_out, given_here, given_other, and_both, all_pass, picked, moved_move, moved_to_move, moved_of_to, each_more, each_true}
 
 -- what a fork does to cells
 

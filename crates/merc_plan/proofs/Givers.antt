@@ -1,5 +1,5 @@
 -- The course of each goal gives through its branch's rights to signal alone.
-use Rattle.std.proofs.Common.{◌≡◌, ℕ, zero, suc, ◌+◌, ◌≤◌, ◌<◌, ◌⊎◌, inl, inr, Bool, true, false, not, if◌then◌else◌, List, [], ◌∷◌, ◌++◌, length, map, filter, flat_map, refl, ap, sym, subst, ◌∙◌, arith}
+use Rattle.std.proofs.Common.{◌≡◌, ℕ, zero, suc, ◌≤◌, ◌⊎◌, inl, inr, Bool, true, false, not, if◌then◌else◌, List, [], ◌∷◌, ◌++◌, map, filter, flat_map, refl, ap, sym, ◌∙◌, arith}
 use Rattle.std.specs.Prelude.{⊤, Option, Some, None, nat_eq, ◌==◌, ◌&&◌}
 use Rattle.std.specs.List.{AllByRecursion}
 use Rattle.merc_value.specs.Value.{Value, Values}
@@ -11,8 +11,8 @@ use Rattle.merc_graded_tree.specs.declared.entries.Running.TheVariants.{Sequenti
 use Rattle.merc_graded_tree.specs.Nodes.{Node, node, Goal, Basic, Conjunction, Disjunction, Switch, Conditional, Negation, Quantified, Nodes, no_nodes, more_nodes, Arms, no_arms, more_arms}
 use Rattle.merc_meaning.specs.Values.{fields, same}
 use Rattle.merc_meaning.specs.Arithmetic.{comparison_of}
-use Rattle.merc_meaning.specs.Trace.{Env, Trace, Ends, Tick, Answer, Done, Raised as RaisedEnd, TooDeep as TooDeepEnd}
-use Rattle.merc_meaning.specs.Steps.{value_at, with_entry, values_at, made_if, binds, compared, split, operated, raised, entered, brought_back}
+use Rattle.merc_meaning.specs.Trace.{Trace, Ends, Tick, Answer, Done, Raised as RaisedEnd, TooDeep as TooDeepEnd}
+use Rattle.merc_meaning.specs.Steps.{value_at, values_at, made_if, binds, compared, split, operated, raised, entered, brought_back}
 use Rattle.merc_meaning.specs.Runs.{Program, ProcedureBody, answers_once}
 use Rattle.merc_script.specs.declared.cells.Move.{Move}
 use Rattle.merc_core.specs.Rights.{has, is_kind, moved_to}
@@ -20,12 +20,12 @@ use Rattle.merc_par_split.specs.declared.sites.CellInfo.{CellInfo}
 use Rattle.merc_par_split.specs.declared.sites.Moved.{Moved}
 use Rattle.merc_par_split.specs.declared.sites.SiteInfo.{SiteInfo}
 use Rattle.merc_par_split.specs.Rights.{is_sooner}
-use Rattle.merc_plan.specs.Branch.{HeldWait, HeldSignal, Hold, NamedCell, Fork, Gift, BranchCourse, BranchCourses, Over, Breaks, Steps, Finds, Awaits, Gives, Forks, no_branches, more_branches, Starving, names, gives}
-use Rattle.merc_plan.specs.Hold.{holding, with_env, wait_for, without_wait, sooner, signal_for, without_signal, named, own_waits, own_signals, child_for, moves_if, moves_from, goes_to, waits_into, signals_into, stays, signals_kept, fork_of, conjunct_hold, hold_behind}
-use Rattle.merc_plan.specs.Branches.{one_answer, traced, awaited, signal_cell, signalled, once_if, called, where_some, taken_arm, info_of, Plan, basic_branch, goal_branch, node_branch, all_branch, any_branch, arms_branch, conjunct_branches, conjunct_gifts, body_branch, call_branch}
+use Rattle.merc_plan.specs.Branch.{HeldWait, HeldSignal, Hold, NamedCell, Gift, BranchCourse, names, gives}
+use Rattle.merc_plan.specs.Hold.{holding, with_env, wait_for, sooner, signal_for, named, own_signals, child_for, moves_if, moves_from, goes_to, signals_into, stays, fork_of, conjunct_hold, hold_behind}
+use Rattle.merc_plan.specs.Branches.{traced, awaited, signal_cell, signalled, called, where_some, taken_arm, info_of, Plan, basic_branch, goal_branch, node_branch, all_branch, any_branch, arms_branch, conjunct_branches, conjunct_gifts, body_branch, call_branch}
 use Rattle.merc_plan.proofs.Judging.{makes, signals_to}
 use Rattle.merc_plan.proofs.Gives.{Right, MoveWithin, SignalsWithin, HoldWithin, Within, AllWithin, within_after, within_each, within_taken, within_once, within_choose, within_negated}
-use Rattle.merc_plan.proofs.Sets.{clash, tell, first_in, rest_in, or_in, front_or, in_left, in_right, in_either, absent, each_true, each_more, picked, moved_to_move}
+use Rattle.merc_plan.proofs.Sets.{clash, first_in, rest_in, or_in, front_or, in_left, in_right, in_either, absent, each_true, each_more, picked, moved_to_move}
 
 -- lists of rights
 

@@ -1,15 +1,14 @@
 -- What a course gives goes through cells that its branch has the right to signal, even behind a fork whose conjuncts do not answer.
-use Rattle.std.proofs.Common.{◌≡◌, ℕ, zero, suc, ◌+◌, ◌≤◌, ◌<◌, ◌⊎◌, inl, inr, Bool, true, false, if◌then◌else◌, List, [], ◌∷◌, ◌++◌, refl, ap, sym, subst, ◌∙◌, arith}
-use Rattle.std.specs.Prelude.{⊤, Option, Some, None}
+use Rattle.std.proofs.Common.{◌≡◌, ℕ, suc, ◌≤◌, ◌⊎◌, inl, inr, Bool, true, false, if◌then◌else◌, List, [], refl, ap, sym, ◌∙◌}
+use Rattle.std.specs.Prelude.{⊤, Some, None}
 use Rattle.std.specs.List.{AllByRecursion}
-use Rattle.merc_value.specs.Value.{Value}
 use Rattle.merc_script.specs.declared.cells.Move.{Move}
 use Rattle.merc_core.specs.Rights.{has, moved}
-use Rattle.merc_plan.specs.Branch.{all_do_answer, HeldSignal, Fork, Hold, BranchCourse, Over, Breaks, Steps, Finds, Awaits, Gives, Forks, BranchCourses, no_branches, more_branches, Gift, gift_at, gifts_through, gives, all_give, after, each, taken_back, first_alone, choose, negated}
+use Rattle.merc_plan.specs.Branch.{all_do_answer, HeldSignal, Fork, Hold, BranchCourse, Over, Breaks, Steps, Finds, Awaits, Gives, Forks, BranchCourses, no_branches, more_branches, gift_at, gifts_through, gives, all_give, after, each, taken_back, first_alone, choose, negated}
 use Rattle.merc_plan.specs.Branches.{once_if}
 use Rattle.merc_plan.proofs.Answering.{none_behind}
 use Rattle.merc_plan.proofs.Judging.{signals_to}
-use Rattle.merc_plan.proofs.Sets.{clash, tell, look_past, gifts_out, given_other, moved_move, each_more}
+use Rattle.merc_plan.proofs.Sets.{clash, look_past, gifts_out, given_other, moved_move, each_more}
 
 -- the right to signal a cell, or no cell: no cell's name is 0
 abbrev pub Right : (ℕ → Bool) → ℕ → Type 0

@@ -1,5 +1,5 @@
 -- Courses that keep to their rights, under the combinators.
-use Rattle.std.proofs.Common.{◌≡◌, ℕ, zero, suc, ◌+◌, ◌≤◌, ◌<◌, ◌⊎◌, inl, inr, Bool, true, false, if◌then◌else◌, List, [], ◌∷◌, ◌++◌, refl, ap, sym, subst, ◌∙◌, arith}
+use Rattle.std.proofs.Common.{◌≡◌, ℕ, suc, ◌≤◌, ◌<◌, ◌⊎◌, inl, inr, Bool, true, false, if◌then◌else◌, List, [], ◌∷◌, ◌++◌, refl, ap, sym, subst, ◌∙◌, arith}
 use Rattle.std.specs.Prelude.{⊤, Option, Some, None, nat_eq}
 use Rattle.std.specs.List.{AllByRecursion}
 use Rattle.merc_value.specs.Value.{Value}
@@ -10,8 +10,8 @@ use Rattle.merc_plan.specs.Branch.{all_do_answer, NamedCell, Fork, Hold, BranchC
 use Rattle.merc_plan.specs.Branches.{once_if}
 use Rattle.merc_plan.proofs.Flat.{Flat, Done, Halts, Tick, Answer, Answers, NotDone, Each, behind}
 use Rattle.merc_plan.proofs.Answering.{all_behind, all_told, none_behind}
-use Rattle.merc_plan.proofs.Judging.{flat, flats, AllAnswer, kid_count, uses, NamedFits, makes, signals_to, waits_to, MoveGoes, HoldsRight, SiteFits, OwnFits, Whole, anything, Keeps, AllKeep, Quiet}
-use Rattle.merc_plan.proofs.Sets.{clash, tell, same_number, only_one, front_or, in_left, in_right, in_either, minus_in, minus_keeps, minus_more, append_more, not_one, look_past, look_before, look_same, gifts_out, gifts_in, append_all, append_none, given_other, moved_move, moved_to_move, picked, each_true}
+use Rattle.merc_plan.proofs.Judging.{flat, flats, AllAnswer, kid_count, uses, makes, signals_to, waits_to, MoveGoes, HoldsRight, SiteFits, OwnFits, Whole, anything, Keeps, AllKeep, Quiet}
+use Rattle.merc_plan.proofs.Sets.{clash, tell, same_number, in_right, in_either, minus_keeps, minus_more, append_more, not_one, look_past, gifts_out, gifts_in, append_all, append_none, given_other, moved_move, moved_to_move, picked, each_true}
 
 -- the rights to wait behind a fork
 abbrev pub waits_past : Fork → List ℕ → List ℕ

@@ -1,16 +1,15 @@
 -- What a course owes: that what it waits for is given, that its conjuncts answer once, and that it uses its rights.
-use Rattle.std.proofs.Common.{◌≡◌, ◌≢◌, ℕ, zero, suc, ◌+◌, ◌≤◌, ◌<◌, ◌⊎◌, Bool, true, false, List, [], ◌∷◌, ◌++◌, map, if◌then◌else◌, Option, Some, None, nat_eq}
+use Rattle.std.proofs.Common.{◌≡◌, ◌≢◌, ℕ, suc, ◌+◌, ◌≤◌, ◌<◌, ◌⊎◌, Bool, true, false, List, [], ◌∷◌, ◌++◌, if◌then◌else◌, Option, Some, None, nat_eq}
 use Rattle.std.specs.Prelude.{⊤, filter}
 use Rattle.std.specs.List.{AllByRecursion}
 use Rattle.merc_value.specs.Value.{Value}
-use Rattle.merc_script.specs.declared.outcome.Outcome.{Outcome}
 use Rattle.merc_script.specs.declared.cells.Move.{Move}
 use Rattle.merc_script.specs.Script.{Script, Ends, TickThen, WaitThen, SignalThen, ForkThen, Children, NoChild, Child, Cell, count, ends}
 use Rattle.merc_script.specs.declared.outcome.Outcome.TheVariants.{Starved}
 use Rattle.merc_script.specs.Joining.{joined}
 use Rattle.merc_core.specs.Rights.{has, without, numbers_of, moved, moved_to, used_by, signals_at, waits_at, signals_behind}
 use Rattle.merc_core.specs.WellFormed.{AreDistinct, ForkFits, EndsWell, Follows, gain, value_in, most_children}
-use Rattle.merc_plan.specs.Branch.{NamedCell, Fork, Hold, BranchCourse, Over, Breaks, Steps, Finds, Awaits, Gives, Forks, BranchCourses, no_branches, more_branches, names, Gift, gift_at, gifts_through, gives, all_give}
+use Rattle.merc_plan.specs.Branch.{NamedCell, Fork, Hold, BranchCourse, Over, Breaks, Steps, Finds, Awaits, Gives, Forks, BranchCourses, no_branches, more_branches, names, Gift, gift_at, gifts_through, all_give}
 use Rattle.merc_plan.specs.BranchScript.{those_of}
 use Rattle.merc_plan.proofs.Flat.{Flat, Done, Halts, Tick, Answer, behind, Det, Answers}
 

@@ -1,17 +1,17 @@
 -- What a course awaits is given, where it keeps to its rights.
-use Rattle.std.proofs.Common.{◌≡◌, ℕ, zero, suc, ◌+◌, ◌≤◌, ◌<◌, ◌⊎◌, inl, inr, Bool, true, false, if◌then◌else◌, List, [], ◌∷◌, ◌++◌, refl, ap, sym, subst, ◌∙◌, arith}
-use Rattle.std.specs.Prelude.{nat_eq, ⊤, Option, Some, None, ◌&&◌}
+use Rattle.std.proofs.Common.{◌≡◌, ℕ, suc, ◌+◌, ◌≤◌, ◌<◌, ◌⊎◌, inl, inr, Bool, true, false, if◌then◌else◌, List, [], ◌∷◌, ◌++◌, refl, ap, sym, subst, ◌∙◌, arith}
+use Rattle.std.specs.Prelude.{nat_eq, Option, Some, None, ◌&&◌}
 use Rattle.std.specs.List.{AllByRecursion}
 use Rattle.std.proofs.lemmas.Bool.Decides.{nat_tests}
 use Rattle.merc_value.specs.Value.{Value}
 use Rattle.merc_script.specs.declared.cells.Move.{Move}
 use Rattle.merc_core.specs.Rights.{has, without, is_kind, moved, moved_to}
-use Rattle.merc_plan.specs.Branch.{NamedCell, Fork, Hold, BranchCourse, Over, Breaks, Steps, Finds, Awaits, Gives, Forks, BranchCourses, no_branches, more_branches, names, Gift, gift_at, gifts_through, gives, all_give}
+use Rattle.merc_plan.specs.Branch.{NamedCell, Fork, Hold, BranchCourse, Over, Breaks, Steps, Finds, Awaits, Gives, Forks, BranchCourses, no_branches, more_branches, names, Gift, gift_at, gifts_through, all_give}
 use Rattle.merc_plan.specs.BranchScript.{those_of}
-use Rattle.merc_plan.proofs.Flat.{Flat, Answers}
-use Rattle.merc_plan.proofs.Judging.{flat, flats, marks, all_marks, AllAnswer, Served, AllServed, kid_count, makes, uses, signals_to, waits_to, NamedFits, MoveGoes, HoldsRight, SiteFits, OwnFits, Whole, anything, Keeps, AllKeep, Quiet}
-use Rattle.merc_plan.proofs.Holds.{kid_proper, waits_past, pending_past, answers_kids, own_fits, no_move_fits}
-use Rattle.merc_plan.proofs.Sets.{clash, tell, same_number, is_same, only_one, in_common, front_or, first_in, rest_in, in_left, in_right, in_either, minus_in, minus_keeps, absent, gone_not, look_same, gifts_out, given_other, given_here, both_and, each_both, picked, moved_to_move}
+use Rattle.merc_plan.proofs.Flat.{Answers}
+use Rattle.merc_plan.proofs.Judging.{flat, marks, all_marks, AllAnswer, Served, AllServed, kid_count, makes, uses, signals_to, waits_to, NamedFits, MoveGoes, HoldsRight, SiteFits, Whole, anything, Keeps, AllKeep, Quiet}
+use Rattle.merc_plan.proofs.Holds.{kid_proper, waits_past, pending_past, answers_kids, own_fits}
+use Rattle.merc_plan.proofs.Sets.{clash, tell, same_number, is_same, in_common, first_in, rest_in, in_left, in_right, in_either, minus_in, minus_keeps, absent, gone_not, look_same, gifts_out, both_and, each_both, picked, moved_to_move}
 
 here_or_later : (k j : ℕ) → k ≤ j → (b : Bool) → nat_eq j k ≡ b → (j ≡ k) ⊎ (suc k ≤ j)
 here_or_later k j h true e = inl (grind (arith, nat_tests, e))

@@ -1,5 +1,5 @@
 -- What a branch is told: the value with which each wait goes on is the one that is known of its cell.
-use Rattle.std.proofs.Common.{◌≡◌, ℕ, ◌+◌, ◌≤◌, ◌<◌, Bool, true, false, if◌then◌else◌, List, [], ◌++◌, refl, ap, sym, ◌∙◌, arith}
+use Rattle.std.proofs.Common.{◌≡◌, ℕ, ◌≤◌, ◌<◌, Bool, true, false, if◌then◌else◌, List, [], ◌++◌, refl, ap, sym, ◌∙◌, arith}
 use Rattle.std.specs.Prelude.{⊤, Option, None}
 use Rattle.std.specs.List.{AllByRecursion}
 use Rattle.merc_value.specs.Value.{Value}

@@ -4,7 +4,7 @@ use Rattle.std.specs.Prelude.{⊤, nat_le}
 use Rattle.std.proofs.lemmas.Bool.Decides.{nat_tests}
 use Rattle.merc_script.specs.declared.outcome.Outcome.{Outcome}
 use Rattle.merc_script.specs.declared.outcome.Outcome.TheVariants.{Ok as Fine, Raise, Limit, Starved, NoMemory}
-use Rattle.merc_script.specs.Script.{Script, Ends, end_of}
+use Rattle.merc_script.specs.Script.{Script, end_of}
 use Rattle.merc_script.specs.Joining.{walk, lacks_memory, joined}
 use Rattle.merc_plan.specs.Branch.{Halt, Raised, TooDeep, Starving}
 use Rattle.merc_plan.specs.BranchScript.{going}

@@ -1,10 +1,9 @@
 -- The course of a branch, in which what others give it is put in: each wait has its cell and the value that comes through it, each signal its cell and value,
 -- and each fork its conjuncts' courses.
-use Rattle.std.specs.Prelude.{ℕ, suc, ◌==◌, ◌&&◌, Bool, true, false, not, List, [], ◌∷◌, ◌++◌, map, Option, Some, None, if◌then◌else◌}
-use Rattle.std.specs.List.{filter}
+use Rattle.std.specs.Prelude.{ℕ, ◌==◌, ◌&&◌, Bool, true, false, List, [], ◌∷◌, ◌++◌, map, Option, Some, None, if◌then◌else◌}
 use Rattle.merc_value.specs.Value.{Value}
 use Rattle.merc_meaning.specs.Trace.{Env}
-use Rattle.merc_core.specs.Rights.{has, moved}
+use Rattle.merc_core.specs.Rights.{moved}
 use Rattle.merc_script.specs.declared.cells.Move.{Move}
 
 -- A right to wait for a variable's value, which comes through this cell. A conjunct to the left gives it this value, or none.

@@ -1,8 +1,7 @@
 -- Worked examples of courses of branches.
-use Rattle.std.specs.Prelude.{◌≡◌, ℕ, pos, true, false, List, [], ◌∷◌, Option, Some, None, refl}
+use Rattle.std.specs.Prelude.{◌≡◌, pos, true, [], ◌∷◌, Some, None, refl}
 use Rattle.merc_value.specs.Value.{Value, Int}
-use Rattle.merc_script.specs.declared.cells.Move.{Move}
-use Rattle.merc_plan.specs.Branch.{Hold, NamedCell, Fork, Gift, BranchCourse, BranchCourses, Over, Breaks, Steps, Finds, Awaits, Gives, Forks, no_branches, more_branches, Raised, Starving, after, each, taken_back, first_alone, choose, negated, closed, names, gift_at, value_given, gifts_through, does_answer, gives}
+use Rattle.merc_plan.specs.Branch.{Hold, Fork, BranchCourse, Over, Breaks, Steps, Finds, Awaits, Gives, Forks, no_branches, more_branches, Raised, Starving, after, each, taken_back, first_alone, choose, negated, closed, names, gift_at, value_given, gifts_through, does_answer, gives}
 
 abbrev one : Value
 one = Int (pos 1)

@@ -1,17 +1,16 @@
 -- The script of a branch: what its course does with so many steps left, each fork with the scripts of its conjuncts.
-use Rattle.std.specs.Prelude.{ℕ, suc, zero, ◌+◌, ◌-◌, ◌==◌, Bool, true, false, List, [], ◌∷◌, ◌++◌, length, map, Option, Some, None, if◌then◌else◌}
-use Rattle.merc_value.specs.Value.{Value}
+use Rattle.std.specs.Prelude.{ℕ, suc, zero, ◌+◌, ◌-◌, ◌==◌, Bool, true, false, List, [], ◌∷◌, ◌++◌, length, map, None, if◌then◌else◌}
 use Rattle.merc_meaning.specs.Trace.{Run, Ends as RunEnds, Tick, Answer, RunDone, RunRaised, LimitPassed}
 use Rattle.merc_meaning.specs.Runs.{Program}
 use Rattle.merc_graded_tree.specs.Nodes.{Node}
 use Rattle.merc_script.specs.declared.outcome.Outcome.{Outcome}
 use Rattle.merc_script.specs.declared.outcome.Outcome.TheVariants.{Ok as Fine, Raise, Limit, Starved, NoMemory}
 use Rattle.merc_script.specs.declared.cells.Move.{Move}
-use Rattle.merc_script.specs.Script.{Script, Ends, TickThen, WaitThen, SignalThen, ForkThen, Children, NoChild, Child, Cell, end_of, ends}
+use Rattle.merc_script.specs.Script.{Script, Ends, TickThen, WaitThen, SignalThen, ForkThen, Children, NoChild, Child, Cell, ends}
 use Rattle.merc_script.specs.Joining.{joined}
 use Rattle.merc_core.specs.Rights.{has, without, moved}
 use Rattle.merc_core.specs.WellFormed.{cells_of}
-use Rattle.merc_plan.specs.Branch.{NamedCell, Fork, BranchCourse, BranchCourses, Over, Breaks, Steps, Finds, Awaits, Gives, Forks, no_branches, more_branches, Raised, TooDeep, Starving, Gift, gift_at, value_given, all_give, names}
+use Rattle.merc_plan.specs.Branch.{NamedCell, BranchCourse, BranchCourses, Over, Breaks, Steps, Finds, Awaits, Gives, Forks, no_branches, more_branches, Raised, TooDeep, Starving, Gift, gift_at, value_given, all_give, names}
 use Rattle.merc_plan.specs.Branches.{Plan, root_branch}
 
 -- those of cells that are among others

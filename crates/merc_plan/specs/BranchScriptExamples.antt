@@ -1,12 +1,10 @@
 -- Worked examples of scripts of branches: of limits, exceptions, forks that do not end well, and of numbers for cells.
-use Rattle.std.specs.Prelude.{◌≡◌, ℕ, pos, true, false, List, [], ◌∷◌, Option, Some, None, refl}
+use Rattle.std.specs.Prelude.{◌≡◌, ℕ, pos, true, false, [], ◌∷◌, Some, None, refl}
 use Rattle.merc_value.specs.Value.{Value, Int}
 use Rattle.merc_meaning.specs.Trace.{Ends as RunEnds, Tick, Answer, RunDone, RunRaised, LimitPassed}
-use Rattle.merc_script.specs.declared.outcome.Outcome.{Outcome}
 use Rattle.merc_script.specs.declared.outcome.Outcome.TheVariants.{Ok as Fine, Raise, Limit, Starved}
-use Rattle.merc_script.specs.declared.cells.Move.{Move}
 use Rattle.merc_script.specs.Script.{Script, Ends, TickThen, WaitThen, SignalThen, ForkThen, Children, NoChild, Child, Cell}
-use Rattle.merc_plan.specs.Branch.{Hold, NamedCell, Fork, BranchCourse, BranchCourses, Over, Breaks, Steps, Finds, Awaits, Gives, Forks, no_branches, more_branches, Raised, TooDeep, Starving}
+use Rattle.merc_plan.specs.Branch.{Hold, NamedCell, BranchCourse, Over, Breaks, Steps, Finds, Awaits, Gives, Forks, no_branches, more_branches, Raised, TooDeep}
 use Rattle.merc_plan.specs.Hold.{holding}
 use Rattle.merc_plan.specs.BranchScript.{those_of, signalled, going, script, with_numbers, no_numbers, width, numbered, shown_by}
 

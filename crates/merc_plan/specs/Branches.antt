@@ -1,6 +1,6 @@
 -- The courses of branches: what goals do beside others, where what others give is known. As courses of goals, but that a wait goes on with the value that comes
 -- through its cell, a signal gives it, and a conjunct begins with what conjuncts to the left give.
-use Rattle.std.specs.Prelude.{ℕ, suc, zero, Bool, true, false, List, [], ◌∷◌, ◌++◌, Option, Some, None}
+use Rattle.std.specs.Prelude.{ℕ, suc, zero, Bool, true, false, List, [], ◌++◌, Option, Some, None}
 use Rattle.merc_value.specs.Value.{Value, Values}
 use Rattle.merc_goal_tree.specs.declared.goal.Symbol.{Symbol}
 use Rattle.merc_graded_tree.specs.declared.basic.BasicGoal.{BasicGoal}
@@ -10,7 +10,7 @@ use Rattle.merc_graded_tree.specs.declared.entries.Running.TheVariants.{Sequenti
 use Rattle.merc_graded_tree.specs.Nodes.{Node, node, Goal, Basic, Conjunction, Disjunction, Switch, Conditional, Negation, Quantified, Nodes, no_nodes, more_nodes, Arms, no_arms, more_arms}
 use Rattle.merc_meaning.specs.Values.{fields, same}
 use Rattle.merc_meaning.specs.Arithmetic.{comparison_of}
-use Rattle.merc_meaning.specs.Trace.{Env, Trace, Ends, Tick, Answer, Done, Raised as RaisedEnd, TooDeep as TooDeepEnd}
+use Rattle.merc_meaning.specs.Trace.{Trace, Ends, Tick, Answer, Done, Raised as RaisedEnd, TooDeep as TooDeepEnd}
 use Rattle.merc_meaning.specs.Steps.{value_at, with_entry, values_at, made_if, binds, compared, split, operated, raised, entered, brought_back}
 use Rattle.merc_meaning.specs.Runs.{Program, ProcedureBody, answers_once}
 use Rattle.merc_par_split.specs.declared.sites.SiteInfo.{SiteInfo}

@@ -1,11 +1,9 @@
 -- What branches have: the rights with which a conjunct begins, and those that a branch has behind a wait, a signal and a fork.
 use Rattle.std.specs.Prelude.{ℕ, suc, ◌+◌, ◌==◌, ◌&&◌, Bool, true, false, not, List, [], ◌∷◌, ◌++◌, length, map, Option, Some, None, if◌then◌else◌}
 use Rattle.std.specs.List.{filter, flat_map}
-use Rattle.merc_value.specs.Value.{Value}
 use Rattle.merc_graded_tree.specs.Nodes.{Node}
 use Rattle.merc_meaning.specs.Trace.{Env}
 use Rattle.merc_script.specs.declared.cells.Move.{Move}
-use Rattle.merc_core.specs.Rights.{has, moved}
 use Rattle.merc_course.specs.Variables.{node_variables, only}
 use Rattle.merc_par_split.specs.declared.sites.CellInfo.{CellInfo}
 use Rattle.merc_par_split.specs.declared.sites.Moved.{Moved}

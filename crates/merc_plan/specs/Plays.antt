@@ -1,5 +1,5 @@
 -- How a course that goes on by what it is told belongs to the course of a branch, in which that is put in.
-use Rattle.std.specs.Prelude.{◌≡◌, ℕ, Option, Some, None}
+use Rattle.std.specs.Prelude.{ℕ, Some, None}
 use Rattle.merc_value.specs.Value.{Value}
 use Rattle.merc_meaning.specs.Trace.{End, Done, Raised as RaisedEnd, TooDeep as TooDeepEnd}
 use Rattle.merc_course.specs.Course.{GoalCourse, Ends, Tick, Answer, Meets, AtWait, AtSignal, AtFork, Reply, Given, Passed, Joined, Courses, no_courses, more_courses}
