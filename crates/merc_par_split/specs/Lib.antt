@@ -11,6 +11,10 @@ pub mod Outcomes
 pub mod Tasks
 pub mod Members
 pub mod Constructs
+pub mod RowsExamples
+pub mod MembersExamples
+pub mod TasksExamples
+pub mod OutcomesExamples
 pub mod SplitLaws
 pub mod SplitLawsExamples
 pub mod SplitExamples

@@ -1,0 +1,135 @@
+-- Worked examples of tasks, and of what is left to do for goals that join others.
+use Rattle.std.specs.Prelude.{◌≡◌, ◌≤◌, ℕ, List, [], ◌∷◌, ◌++◌, length, Some, None, refl}
+use Rattle.std.proofs.Common.{ap, arith}
+use Rattle.merc_base.specs.declared.category.Category.TheVariants.{Det}
+use Rattle.merc_base.specs.declared.place.Span.{Span}
+use Rattle.merc_graded_tree.specs.declared.basic.BasicGoal.TheVariants.{Test, Assign, Wait, Signal}
+use Rattle.merc_graded_tree.specs.declared.entries.Label.{Label}
+use Rattle.merc_graded_tree.specs.declared.entries.Root.TheVariants.{Conjunction as ConjunctionRoot}
+use Rattle.merc_graded_tree.specs.declared.entries.Running.TheVariants.{Sequential, Parallel}
+use Rattle.merc_graded_tree.specs.Nodes.{Node, node, Basic, Conjunction, nodes_of}
+use Rattle.merc_par_split.specs.declared.sites.SiteInfo.{SiteInfo}
+use Rattle.merc_par_split.specs.declared.tasks.Placing.{Placing}
+use Rattle.merc_par_split.specs.declared.tasks.Task.{Task}
+use Rattle.merc_par_split.specs.declared.tasks.Task.TheVariants.{Place, Enter, Waits, Signals, Close}
+use Rattle.merc_par_split.specs.Constructs.{turn_tasks, site_tasks, LeavesRunning}
+use Rattle.merc_par_split.specs.Outcomes.{fresh}
+use Rattle.merc_par_split.specs.Rights.{Right, right_to}
+use Rattle.merc_par_split.specs.Tasks.{Progress, after, after_all, HaveEnough, effort, total, Lies, starts_of, shares_of, relabelled, wraps, passing, placed_tasks}
+
+abbrev nowhere : Span
+nowhere = record { first = 0; past = 0; line = 1 }
+
+-- a goal that uses the variables 1 and 2 and binds 1, and one that uses 2 alone and can fail
+abbrev copies : Node
+copies = node (Basic (Assign 1 2)) (1 ∷ []) (Some Det) nowhere
+
+abbrev tests : Node
+tests = node (Basic (Test 2 2)) [] None nowhere
+
+abbrev wait : ℕ → ℕ → Node
+wait variable conjunct = node (Basic (Wait variable conjunct)) [] (Some Det) nowhere
+
+abbrev in_turn : List Node → Node
+in_turn goals = node (Conjunction Sequential (nodes_of goals)) (1 ∷ []) (Some Det) nowhere
+
+-- the label of such a conjunction
+abbrev label : ℕ → Label
+label count = record { root = ConjunctionRoot Sequential count; outputs = 1 ∷ []; category = Some Det; span = nowhere }
+
+abbrev placing : Node → ℕ → List Right → Placing
+placing goal first signals = record { goal = goal; first = first; waits = []; signals = signals }
+
+abbrev progress : List Node → Progress
+progress goals = record { goals = goals; sites = [] }
+
+abbrev one_wait : Task
+one_wait = Waits (right_to 4 2 ∷ []) nowhere
+
+-- one task, and one after the other
+
+after-example : after one_wait (progress (tests ∷ [])) ≡ progress (tests ∷ wait 2 4 ∷ [])
+after-example = refl
+
+after_all-example : after_all (one_wait ∷ Place (placing copies 0 []) ∷ Close (label 2) ∷ []) (progress (tests ∷ [])) ≡ progress (tests ∷ in_turn (wait 2 4 ∷ copies ∷ []) ∷ [])
+after_all-example = refl
+
+-- what is closed joins goals that are there
+
+HaveEnough-example : HaveEnough 1 (one_wait ∷ Close (label 2) ∷ [])
+HaveEnough-example = (omega arith, tt)
+
+HaveEnough-not : HaveEnough 1 (Close (label 2) ∷ one_wait ∷ []) → ⊥
+HaveEnough-not enough = let wrong : 2 ≤ 1 = enough.0 in absurd (omega (arith, wrong))
+
+effort-example : effort (Enter (placing (in_turn (tests ∷ copies ∷ [])) 0 [])) ≡ 40
+effort-example = refl
+
+total-example : total (Place (placing copies 0 []) ∷ one_wait ∷ []) ≡ 13
+total-example = refl
+
+-- labels among others
+
+Lies-example : Lies (label 2 ∷ label 3 ∷ label 4 ∷ []) 1 (label 3 ∷ [])
+Lies-example = record { front = label 2 ∷ []; back = label 4 ∷ []; are = refl; count = refl }
+
+none_are : (front back : List Label) → [] ≡ front ++ (label 2 ∷ back) → ⊥
+none_are [] back are = cc
+none_are (first ∷ rest) back are = cc
+
+Lies-not : Lies [] 0 (label 2 ∷ []) → ⊥
+Lies-not lies = none_are lies.front lies.back lies.are
+
+starts_of-example : starts_of 3 (copies ∷ in_turn (tests ∷ copies ∷ []) ∷ []) ≡ 3 ∷ 4 ∷ 7 ∷ []
+starts_of-example = refl
+
+-- each goal with the rights of its number
+
+shares_of-example : shares_of 0 (tests ∷ copies ∷ []) ((0, fresh (right_to 4 2)) ∷ []) ((1, right_to 5 1) ∷ []) ((1, right_to 6 3) ∷ [])
+    ≡ record { goal = tests; waits = fresh (right_to 4 2) ∷ []; signals = []; passed = [] }
+    ∷ record { goal = copies; waits = []; signals = right_to 5 1 ∷ []; passed = right_to 6 3 ∷ [] } ∷ []
+shares_of-example = refl
+
+-- goals in the place of one
+
+wraps-example : wraps 2 copies ≡ Close (label 3) ∷ []
+wraps-example = refl
+
+wraps-not : wraps 0 copies ≡ Close (label 1) ∷ [] → ⊥
+wraps-not of_none = cc
+
+passing-example : passing copies (right_to 4 2 ∷ []) ≡ one_wait ∷ Close (label 2) ∷ []
+passing-example = refl
+
+-- signals go into a goal that cannot fail, and else stand behind it
+
+placed_tasks-example : placed_tasks (placing copies 5 (right_to 4 1 ∷ [])) ≡ Enter (placing copies 5 (right_to 4 1 ∷ [])) ∷ []
+placed_tasks-example = refl
+
+placed_tasks-fails : placed_tasks (placing tests 5 (right_to 4 1 ∷ [])) ≡ Enter (placing tests 5 []) ∷ Signals (right_to 4 1 ∷ []) nowhere ∷ Close (relabelled tests (ConjunctionRoot Sequential 2)) ∷ []
+placed_tasks-fails = refl
+
+placed_tasks-not : placed_tasks (placing tests 5 (right_to 4 1 ∷ [])) ≡ Enter (placing tests 5 (right_to 4 1 ∷ [])) ∷ [] → ⊥
+placed_tasks-not goes_into_it = cc
+
+-- the first goal begins where the whole does, and the signal goes to the one that binds its variable
+
+abbrev whole : Placing
+whole = placing (in_turn (tests ∷ copies ∷ [])) 5 (right_to 4 1 ∷ [])
+
+turn_tasks-example : turn_tasks whole (tests ∷ copies ∷ []) ≡ Place (placing tests 5 []) ∷ Place (placing copies 6 (right_to 4 1 ∷ [])) ∷ Close (label 2) ∷ []
+turn_tasks-example = refl
+
+site_tasks-example : site_tasks copies 2 3 0
+    ≡ Close (record { root = ConjunctionRoot (Parallel (Some (record { number = 3 }))) 2; outputs = 1 ∷ []; category = Some Det; span = nowhere })
+    ∷ Waits (right_to 0 1 ∷ []) nowhere ∷ Close (label 2) ∷ []
+site_tasks-example = refl
+
+-- Goals one after the other have no site of their own.
+
+LeavesRunning-example : LeavesRunning Sequential whole (tests ∷ copies ∷ []) [] []
+    (one_wait ∷ []) (Place (placing tests 5 []) ∷ Place (placing copies 6 (right_to 4 1 ∷ [])) ∷ Close (label 2) ∷ one_wait ∷ [])
+LeavesRunning-example = (refl, refl)
+
+LeavesRunning-not : (tasks tasks' : List Task) → LeavesRunning Sequential whole (tests ∷ copies ∷ []) [] (record { children = 2; cells = []; moves = [] } ∷ []) tasks tasks' → ⊥
+LeavesRunning-not tasks tasks' leaves = let wrong : ◌≡◌ {A = List SiteInfo} (record { children = 2; cells = []; moves = [] } ∷ []) [] = leaves.1 in cc
