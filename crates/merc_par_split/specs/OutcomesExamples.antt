@@ -1,5 +1,5 @@
 -- Worked examples of what comes of goals.
-use Rattle.std.specs.Prelude.{◌≡◌, ◌==◌, ℕ, true, false, List, [], ◌∷◌, Some, None, refl}
+use Rattle.std.specs.Prelude.{◌≡◌, ◌==◌, ℕ, true, List, [], ◌∷◌, Some, None, refl}
 use Rattle.merc_base.specs.declared.category.Category.TheVariants.{Det}
 use Rattle.merc_base.specs.declared.place.Span.{Span}
 use Rattle.merc_graded_tree.specs.declared.basic.BasicGoal.TheVariants.{Test, Assign, Wait, Signal}
