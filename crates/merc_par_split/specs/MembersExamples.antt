@@ -85,7 +85,8 @@ waits_at-example : waits_at (copies ∷ tests ∷ copies ∷ []) 0 1 ≡ (2, fre
 waits_at-example = refl
 
 -- with a right that moves in, in the order of the conjuncts
-signals_at-example : signals_at (copies ∷ tests ∷ copies ∷ []) (1 ∷ []) ((1, right_to 2 1) ∷ []) 0 1 ≡ (0, right_to 2 1) ∷ (0, right_to 3 1) ∷ (0, right_to 0 1) ∷ []
+signals_at-example : signals_at (copies ∷ tests ∷ copies ∷ []) (1 ∷ []) ((1, right_to 2 1) ∷ []) 0 1
+    ≡ (0, right_to 2 1) ∷ (0, right_to 3 1) ∷ (0, right_to 0 1) ∷ []
 signals_at-example = refl
 
 -- once for all rights for the variable
@@ -100,7 +101,8 @@ move_of-example = refl
 
 -- what is found
 
-Adds-example : (old new : Found) → old.cells.items ≡ [] → new.cells.items ≡ cell ∷ [] → new.moves.items ≡ old.moves.items ++ [] → new.waits.items ≡ old.waits.items ++ []
+Adds-example : (old new : Found) → old.cells.items ≡ [] → new.cells.items ≡ cell ∷ [] → new.moves.items ≡ old.moves.items ++ []
+    → new.waits.items ≡ old.waits.items ++ []
     → new.signals.items ≡ old.signals.items ++ [] → Adds old new (cell ∷ []) [] [] []
 Adds-example old new none one moves waits signals =
     record { more_cells = one ∙ sym (ap (λ cells. cells ++ cell ∷ []) none); more_moves = moves; more_waits = waits; more_signals = signals }
@@ -112,8 +114,10 @@ ends_with_one (first ∷ rest) none = cc
 Adds-not : (old new : Found) → new.cells.items ≡ [] → Adds old new (cell ∷ []) [] [] [] → ⊥
 Adds-not old new none adds = ends_with_one old.cells.items (sym none ∙ adds.more_cells)
 
-Finds-example : (found : Found) → found.cells.items ≡ [] → found.moves.items ≡ [] → found.waits.items ≡ [] → found.signals.items ≡ [] → Finds (tests ∷ tests ∷ []) [] [] found
-Finds-example found cells moves waits signals = record { moved = []; by_variable = λ variable. refl; are_cells = cells; are_moves = moves; are_waits = waits; are_signals = signals }
+Finds-example : (found : Found) → found.cells.items ≡ [] → found.moves.items ≡ [] → found.waits.items ≡ [] → found.signals.items ≡ []
+    → Finds (tests ∷ tests ∷ []) [] [] found
+Finds-example found cells moves waits signals =
+    record { moved = []; by_variable = λ variable. refl; are_cells = cells; are_moves = moves; are_waits = waits; are_signals = signals }
 
 Finds-not : (found : Found) → found.cells.items ≡ [] → Finds (copies ∷ tests ∷ copies ∷ []) [] [] found → ⊥
 Finds-not found none finds = let wrong : ◌≡◌ {A = List CellInfo} [] (cell ∷ []) = sym none ∙ finds.are_cells in cc

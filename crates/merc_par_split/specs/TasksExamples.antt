@@ -52,7 +52,8 @@ one_wait = Waits (right_to 4 2 ∷ []) nowhere
 after-example : after one_wait (progress (tests ∷ [])) ≡ progress (tests ∷ wait 2 4 ∷ [])
 after-example = refl
 
-after_all-example : after_all (one_wait ∷ Place (placing copies 0 []) ∷ Close (label 2) ∷ []) (progress (tests ∷ [])) ≡ progress (tests ∷ in_turn (wait 2 4 ∷ copies ∷ []) ∷ [])
+after_all-example : after_all (one_wait ∷ Place (placing copies 0 []) ∷ Close (label 2) ∷ []) (progress (tests ∷ []))
+    ≡ progress (tests ∷ in_turn (wait 2 4 ∷ copies ∷ []) ∷ [])
 after_all-example = refl
 
 -- what is closed joins goals that are there
@@ -107,7 +108,8 @@ passing-example = refl
 placed_tasks-example : placed_tasks (placing copies 5 (right_to 4 1 ∷ [])) ≡ Enter (placing copies 5 (right_to 4 1 ∷ [])) ∷ []
 placed_tasks-example = refl
 
-placed_tasks-fails : placed_tasks (placing tests 5 (right_to 4 1 ∷ [])) ≡ Enter (placing tests 5 []) ∷ Signals (right_to 4 1 ∷ []) nowhere ∷ Close (relabelled tests (ConjunctionRoot Sequential 2)) ∷ []
+placed_tasks-fails : placed_tasks (placing tests 5 (right_to 4 1 ∷ []))
+    ≡ Enter (placing tests 5 []) ∷ Signals (right_to 4 1 ∷ []) nowhere ∷ Close (relabelled tests (ConjunctionRoot Sequential 2)) ∷ []
 placed_tasks-fails = refl
 
 placed_tasks-not : placed_tasks (placing tests 5 (right_to 4 1 ∷ [])) ≡ Enter (placing tests 5 (right_to 4 1 ∷ [])) ∷ [] → ⊥
@@ -132,7 +134,8 @@ LeavesRunning-example : LeavesRunning Sequential whole (tests ∷ copies ∷ [])
     (one_wait ∷ []) (Place (placing tests 5 []) ∷ Place (placing copies 6 (right_to 4 1 ∷ [])) ∷ Close (label 2) ∷ one_wait ∷ [])
 LeavesRunning-example = (refl, refl)
 
-LeavesRunning-not : (tasks tasks' : List Task) → LeavesRunning Sequential whole (tests ∷ copies ∷ []) [] (record { children = 2; cells = []; moves = [] } ∷ []) tasks tasks' → ⊥
+LeavesRunning-not : (tasks tasks' : List Task)
+    → LeavesRunning Sequential whole (tests ∷ copies ∷ []) [] (record { children = 2; cells = []; moves = [] } ∷ []) tasks tasks' → ⊥
 LeavesRunning-not tasks tasks' leaves = let wrong : ◌≡◌ {A = List SiteInfo} (record { children = 2; cells = []; moves = [] } ∷ []) [] = leaves.1 in cc
 
 -- the goals of tasks stand where they say
