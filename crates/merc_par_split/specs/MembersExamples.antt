@@ -1,16 +1,19 @@
 -- Worked examples of the goals that rights go to.
 use Rattle.std.specs.Prelude.{◌≡◌, ℕ, true, false, List, [], ◌∷◌, ◌++◌, Some, None, refl}
-use Rattle.std.proofs.Common.{◌∙◌, ap, sym}
+use Rattle.std.proofs.Common.{◌∙◌, ap, sym, subst}
 use Rattle.merc_base.specs.declared.category.Category.TheVariants.{Det}
 use Rattle.merc_base.specs.declared.place.Span.{Span}
 use Rattle.merc_graded_tree.specs.declared.basic.BasicGoal.TheVariants.{Test, Assign}
+use Rattle.merc_graded_tree.specs.Labels.{labels_of, all_labels}
 use Rattle.merc_graded_tree.specs.Nodes.{Node, node, Basic}
 use Rattle.merc_par_split.specs.declared.conjuncts.Found.{Found}
+use Rattle.merc_par_split.specs.declared.members.Members.{Members}
 use Rattle.merc_par_split.specs.declared.rights.Awaited.{Awaited}
 use Rattle.merc_par_split.specs.declared.sites.CellInfo.{CellInfo}
-use Rattle.merc_par_split.specs.Members.{count_of, turn_wait, turn_signal, wait_shares, signal_shares, pass_shares, consumers_behind, cells_at, waits_at, signals_at, moves_at, move_of, Adds, Finds}
+use Rattle.merc_par_split.specs.Members.{count_of, turn_wait, turn_signal, wait_shares, signal_shares, pass_shares, consumers_behind, cells_at, waits_at, signals_at, moves_at, move_of, Adds, Finds, IsLaid}
 use Rattle.merc_par_split.specs.Outcomes.{fresh}
 use Rattle.merc_par_split.specs.Rights.{Right, right_to}
+use Rattle.merc_par_split.specs.Tasks.{Lies, starts_of}
 
 abbrev nowhere : Span
 nowhere = record { first = 0; past = 0; line = 1 }
@@ -82,7 +85,8 @@ waits_at-example : waits_at (copies ∷ tests ∷ copies ∷ []) 0 1 ≡ (2, fre
 waits_at-example = refl
 
 -- with a right that moves in, in the order of the conjuncts
-signals_at-example : signals_at (copies ∷ tests ∷ copies ∷ []) (1 ∷ []) ((1, right_to 2 1) ∷ []) 0 1 ≡ (0, right_to 2 1) ∷ (0, right_to 3 1) ∷ (0, right_to 0 1) ∷ []
+signals_at-example : signals_at (copies ∷ tests ∷ copies ∷ []) (1 ∷ []) ((1, right_to 2 1) ∷ []) 0 1
+    ≡ (0, right_to 2 1) ∷ (0, right_to 3 1) ∷ (0, right_to 0 1) ∷ []
 signals_at-example = refl
 
 -- once for all rights for the variable
@@ -97,7 +101,8 @@ move_of-example = refl
 
 -- what is found
 
-Adds-example : (old new : Found) → old.cells.items ≡ [] → new.cells.items ≡ cell ∷ [] → new.moves.items ≡ old.moves.items ++ [] → new.waits.items ≡ old.waits.items ++ []
+Adds-example : (old new : Found) → old.cells.items ≡ [] → new.cells.items ≡ cell ∷ [] → new.moves.items ≡ old.moves.items ++ []
+    → new.waits.items ≡ old.waits.items ++ []
     → new.signals.items ≡ old.signals.items ++ [] → Adds old new (cell ∷ []) [] [] []
 Adds-example old new none one moves waits signals =
     record { more_cells = one ∙ sym (ap (λ cells. cells ++ cell ∷ []) none); more_moves = moves; more_waits = waits; more_signals = signals }
@@ -109,8 +114,28 @@ ends_with_one (first ∷ rest) none = cc
 Adds-not : (old new : Found) → new.cells.items ≡ [] → Adds old new (cell ∷ []) [] [] [] → ⊥
 Adds-not old new none adds = ends_with_one old.cells.items (sym none ∙ adds.more_cells)
 
-Finds-example : (found : Found) → found.cells.items ≡ [] → found.moves.items ≡ [] → found.waits.items ≡ [] → found.signals.items ≡ [] → Finds (tests ∷ tests ∷ []) [] [] found
-Finds-example found cells moves waits signals = record { moved = []; by_variable = λ variable. refl; are_cells = cells; are_moves = moves; are_waits = waits; are_signals = signals }
+Finds-example : (found : Found) → found.cells.items ≡ [] → found.moves.items ≡ [] → found.waits.items ≡ [] → found.signals.items ≡ []
+    → Finds (tests ∷ tests ∷ []) [] [] found
+Finds-example found cells moves waits signals =
+    record { moved = []; by_variable = λ variable. refl; are_cells = cells; are_moves = moves; are_waits = waits; are_signals = signals }
 
 Finds-not : (found : Found) → found.cells.items ≡ [] → Finds (copies ∷ tests ∷ copies ∷ []) [] [] found → ⊥
 Finds-not found none finds = let wrong : ◌≡◌ {A = List CellInfo} [] (cell ∷ []) = sym none ∙ finds.are_cells in cc
+
+-- where goals start
+
+IsLaid-example : (members : Members) → members.first ≡ 0 → members.goals.items ≡ copies ∷ [] → members.starts.items ≡ 0 ∷ 1 ∷ [] → IsLaid copies members
+IsLaid-example members first goals starts =
+    let at_nought : Lies (labels_of copies) 0 (all_labels (copies ∷ [])) = record { front = []; back = []; are = refl; count = refl } in
+    let of_goals : Lies (labels_of copies) 0 (all_labels members.goals.items) = subst (λ list. Lies (labels_of copies) 0 (all_labels list)) (sym goals) at_nought in
+    record {
+      starts = starts ∙ sym (ap (λ start. starts_of start members.goals.items) first ∙ ap (λ list. starts_of 0 list) goals);
+      lies = subst (λ start. Lies (labels_of copies) start (all_labels members.goals.items)) (sym first) of_goals;
+    }
+
+starts_somewhere : (start : ℕ) (goals : List Node) → [] ≡ starts_of start goals → ⊥
+starts_somewhere start [] none = cc
+starts_somewhere start (first ∷ rest) none = cc
+
+IsLaid-not : (members : Members) → members.starts.items ≡ [] → IsLaid copies members → ⊥
+IsLaid-not members none laid = starts_somewhere members.first members.goals.items (sym none ∙ laid.starts)

@@ -1,5 +1,5 @@
 -- Worked examples of what comes of goals.
-use Rattle.std.specs.Prelude.{◌≡◌, ◌==◌, ℕ, true, false, List, [], ◌∷◌, Some, None, refl}
+use Rattle.std.specs.Prelude.{◌≡◌, ◌==◌, ℕ, true, List, [], ◌∷◌, Some, None, refl}
 use Rattle.merc_base.specs.declared.category.Category.TheVariants.{Det}
 use Rattle.merc_base.specs.declared.place.Span.{Span}
 use Rattle.merc_graded_tree.specs.declared.basic.BasicGoal.TheVariants.{Test, Assign, Wait, Signal}
@@ -73,7 +73,8 @@ outcome-basic = refl
 abbrev in_turn : List Node → Node
 in_turn goals = node (Conjunction Sequential (nodes_of goals)) (1 ∷ []) (Some Det) nowhere
 
-outcome-in_turn : outcome 0 (fresh (right_to 4 1) ∷ []) [] (in_turn (tests ∷ copies ∷ [])) ≡ (in_turn (tests ∷ in_place_of copies (wait 1 4 ∷ copies ∷ []) ∷ []), [])
+outcome-in_turn : outcome 0 (fresh (right_to 4 1) ∷ []) [] (in_turn (tests ∷ copies ∷ []))
+    ≡ (in_turn (tests ∷ in_place_of copies (wait 1 4 ∷ copies ∷ []) ∷ []), [])
 outcome-in_turn = refl
 
 -- `tests & tests` at the site 3 has neither cells nor moves

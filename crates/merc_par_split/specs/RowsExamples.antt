@@ -70,7 +70,8 @@ Rise-not rise = let wrong : true ≡ false = rise.0.0 in cc
 
 -- a place that is not behind those which are sooner
 
-not_before : (front back : List Right) → right_to 2 1 ∷ [] ≡ front ++ back → length front ≡ 0 → AllByRecursion (λ right. is_sooner 3 right.conjunct ≡ true) back → ⊥
+not_before : (front back : List Right) → right_to 2 1 ∷ [] ≡ front ++ back → length front ≡ 0
+    → AllByRecursion (λ right. is_sooner 3 right.conjunct ≡ true) back → ⊥
 not_before [] back are count later =
     let all : AllByRecursion (λ right. is_sooner 3 right.conjunct ≡ true) (right_to 2 1 ∷ []) = subst (λ rights. AllByRecursion (λ right. is_sooner 3 right.conjunct ≡ true) rights) (sym are) later in
     let wrong : false ≡ true = all.0 in cc
@@ -97,7 +98,8 @@ uses-not : uses (ConjunctionRoot Sequential 2) ≡ 0 ∷ [] → ⊥
 uses-not of_its_goals = cc
 
 abbrev basics : Node
-basics = node (Conjunction Sequential (nodes_of (node (Basic (Assign 1 2)) (1 ∷ []) (Some Det) nowhere ∷ node (Basic (Test 2 2)) [] None nowhere ∷ []))) (1 ∷ []) None nowhere
+basics =
+    node (Conjunction Sequential (nodes_of (node (Basic (Assign 1 2)) (1 ∷ []) (Some Det) nowhere ∷ node (Basic (Test 2 2)) [] None nowhere ∷ []))) (1 ∷ []) None nowhere
 
 uses_of-example : uses_of basics ≡ (1 ∷ 2 ∷ []) ∷ (2 ∷ 2 ∷ []) ∷ [] ∷ []
 uses_of-example = refl

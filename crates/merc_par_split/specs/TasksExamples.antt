@@ -1,12 +1,13 @@
 -- Worked examples of tasks, and of what is left to do for goals that join others.
-use Rattle.std.specs.Prelude.{◌≡◌, ◌≤◌, ℕ, List, [], ◌∷◌, ◌++◌, length, Some, None, refl}
-use Rattle.std.proofs.Common.{ap, arith}
+use Rattle.std.specs.Prelude.{◌≡◌, ◌≤◌, ◌<◌, ℕ, List, [], ◌∷◌, ◌++◌, length, Some, None, refl}
+use Rattle.std.proofs.Common.{arith}
 use Rattle.merc_base.specs.declared.category.Category.TheVariants.{Det}
 use Rattle.merc_base.specs.declared.place.Span.{Span}
 use Rattle.merc_graded_tree.specs.declared.basic.BasicGoal.TheVariants.{Test, Assign, Wait, Signal}
 use Rattle.merc_graded_tree.specs.declared.entries.Label.{Label}
 use Rattle.merc_graded_tree.specs.declared.entries.Root.TheVariants.{Conjunction as ConjunctionRoot}
 use Rattle.merc_graded_tree.specs.declared.entries.Running.TheVariants.{Sequential, Parallel}
+use Rattle.merc_graded_tree.specs.Labels.{labels_of}
 use Rattle.merc_graded_tree.specs.Nodes.{Node, node, Basic, Conjunction, nodes_of}
 use Rattle.merc_par_split.specs.declared.sites.SiteInfo.{SiteInfo}
 use Rattle.merc_par_split.specs.declared.tasks.Placing.{Placing}
@@ -15,7 +16,7 @@ use Rattle.merc_par_split.specs.declared.tasks.Task.TheVariants.{Place, Enter, W
 use Rattle.merc_par_split.specs.Constructs.{turn_tasks, site_tasks, LeavesRunning}
 use Rattle.merc_par_split.specs.Outcomes.{fresh}
 use Rattle.merc_par_split.specs.Rights.{Right, right_to}
-use Rattle.merc_par_split.specs.Tasks.{Progress, after, after_all, HaveEnough, effort, total, Lies, starts_of, shares_of, relabelled, wraps, passing, placed_tasks}
+use Rattle.merc_par_split.specs.Tasks.{Progress, after, after_all, HaveEnough, effort, total, Lies, AllLie, Performs, starts_of, shares_of, relabelled, wraps, passing, placed_tasks}
 
 abbrev nowhere : Span
 nowhere = record { first = 0; past = 0; line = 1 }
@@ -51,7 +52,8 @@ one_wait = Waits (right_to 4 2 ∷ []) nowhere
 after-example : after one_wait (progress (tests ∷ [])) ≡ progress (tests ∷ wait 2 4 ∷ [])
 after-example = refl
 
-after_all-example : after_all (one_wait ∷ Place (placing copies 0 []) ∷ Close (label 2) ∷ []) (progress (tests ∷ [])) ≡ progress (tests ∷ in_turn (wait 2 4 ∷ copies ∷ []) ∷ [])
+after_all-example : after_all (one_wait ∷ Place (placing copies 0 []) ∷ Close (label 2) ∷ []) (progress (tests ∷ []))
+    ≡ progress (tests ∷ in_turn (wait 2 4 ∷ copies ∷ []) ∷ [])
 after_all-example = refl
 
 -- what is closed joins goals that are there
@@ -106,7 +108,8 @@ passing-example = refl
 placed_tasks-example : placed_tasks (placing copies 5 (right_to 4 1 ∷ [])) ≡ Enter (placing copies 5 (right_to 4 1 ∷ [])) ∷ []
 placed_tasks-example = refl
 
-placed_tasks-fails : placed_tasks (placing tests 5 (right_to 4 1 ∷ [])) ≡ Enter (placing tests 5 []) ∷ Signals (right_to 4 1 ∷ []) nowhere ∷ Close (relabelled tests (ConjunctionRoot Sequential 2)) ∷ []
+placed_tasks-fails : placed_tasks (placing tests 5 (right_to 4 1 ∷ []))
+    ≡ Enter (placing tests 5 []) ∷ Signals (right_to 4 1 ∷ []) nowhere ∷ Close (relabelled tests (ConjunctionRoot Sequential 2)) ∷ []
 placed_tasks-fails = refl
 
 placed_tasks-not : placed_tasks (placing tests 5 (right_to 4 1 ∷ [])) ≡ Enter (placing tests 5 (right_to 4 1 ∷ [])) ∷ [] → ⊥
@@ -131,5 +134,27 @@ LeavesRunning-example : LeavesRunning Sequential whole (tests ∷ copies ∷ [])
     (one_wait ∷ []) (Place (placing tests 5 []) ∷ Place (placing copies 6 (right_to 4 1 ∷ [])) ∷ Close (label 2) ∷ one_wait ∷ [])
 LeavesRunning-example = (refl, refl)
 
-LeavesRunning-not : (tasks tasks' : List Task) → LeavesRunning Sequential whole (tests ∷ copies ∷ []) [] (record { children = 2; cells = []; moves = [] } ∷ []) tasks tasks' → ⊥
+LeavesRunning-not : (tasks tasks' : List Task)
+    → LeavesRunning Sequential whole (tests ∷ copies ∷ []) [] (record { children = 2; cells = []; moves = [] } ∷ []) tasks tasks' → ⊥
 LeavesRunning-not tasks tasks' leaves = let wrong : ◌≡◌ {A = List SiteInfo} (record { children = 2; cells = []; moves = [] } ∷ []) [] = leaves.1 in cc
+
+-- the goals of tasks stand where they say
+
+AllLie-example : AllLie copies (one_wait ∷ Place (placing copies 0 []) ∷ [])
+AllLie-example = (tt, (record { front = []; back = []; are = refl; count = refl }, tt))
+
+AllLie-not : AllLie copies (one_wait ∷ Place (placing copies 1 []) ∷ []) → ⊥
+AllLie-not lie = let lies : Lies (labels_of copies) 1 (labels_of copies) = lie.1.0 in not_behind lies.front lies.back lies.are lies.count
+  where
+    not_behind : (front back : List Label) → labels_of copies ≡ front ++ (labels_of copies ++ back) → length front ≡ 1 → ⊥
+    not_behind [] back are count = cc
+    not_behind (first ∷ []) back are count = cc
+    not_behind (first ∷ second ∷ rest) back are count = cc
+
+-- a goal without signals into it is entered, which is less than to place it
+
+Performs-example : Performs copies (Place (placing copies 0 [])) [] (progress []) (Enter (placing copies 0 []) ∷ []) (progress [])
+Performs-example = record { same = refl; enough = λ enough. enough; smaller = omega arith; lie = λ lie. lie }
+
+Performs-not : Performs copies one_wait [] (progress []) (one_wait ∷ []) (progress []) → ⊥
+Performs-not performs = let wrong : 1 < 1 = performs.smaller in absurd (omega (arith, wrong))
