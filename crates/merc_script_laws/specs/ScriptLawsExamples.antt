@@ -1,11 +1,11 @@
 -- Worked examples of the script of a goal and of the scripts of its conjuncts: `X = 1 & Y = X`, of which Y is used behind it.
 use Rattle.std.specs.Prelude.{◌≡◌, ℕ, pos, [], ◌∷◌, Some, None, refl}
-use Rattle.merc_base.specs.declared.category.Category.TheVariants.{Det}
+use Rattle.merc_base.specs.declared.category.Category.TheVariants.{Det, Failure}
 use Rattle.merc_base.specs.declared.place.Span.{Span}
 use Rattle.merc_tree.specs.Types.{TypeExpr, IntType}
 use Rattle.merc_tree.specs.declared.declarations.Module.{Module}
 use Rattle.merc_goal_tree.specs.declared.goal.Symbol.TheVariants.{Integer}
-use Rattle.merc_graded_tree.specs.declared.basic.BasicGoal.TheVariants.{True, Assign, Build, Test}
+use Rattle.merc_graded_tree.specs.declared.basic.BasicGoal.TheVariants.{True, Fail, Assign, Build, Test}
 use Rattle.merc_graded_tree.specs.declared.entries.Running.TheVariants.{Parallel}
 use Rattle.merc_graded_tree.specs.Nodes.{Node, node, Basic, Conjunction, Nodes, no_nodes, more_nodes}
 use Rattle.merc_order.specs.Bound.{nothing, among}
@@ -17,6 +17,7 @@ use Rattle.merc_script.specs.declared.outcome.Outcome.TheVariants.{Ok as Fine}
 use Rattle.merc_script.specs.Script.{Ends, WaitThen, SignalThen, ForkThen, NoChild, Child, end_of, ends}
 use Rattle.merc_script.specs.Joining.{joined}
 use Rattle.merc_plan.specs.BranchScript.{scripts, shown_by}
+use Rattle.std.proofs.Common.{arith}
 use Rattle.merc_script_laws.specs.ScriptLaws.{goal_script, alone_script, conjunct_courses, IsSoundTree, Enters}
 
 abbrev nowhere : Span
@@ -82,6 +83,26 @@ sound-example = record {
   is_graded = (node (Basic True) [] None nowhere, refl);
   parallel = record { outputs = tt; beside = refl; few = tt };
 }
+
+-- two such goals side by side
+abbrev both : Node
+both = node (Conjunction (Parallel None) (more_nodes true_goal (more_nodes true_goal no_nodes))) [] (Some Det) nowhere
+
+abbrev ungraded : Node
+ungraded = node (Basic True) [] None nowhere
+
+sound_beside-example : IsSoundTree empty integers nothing nothing [] both
+sound_beside-example = record {
+  typed = (tt, (tt, tt));
+  literals = (tt, (tt, tt));
+  binds = ((λ variable is. cc), tt, ((((λ variable is. cc), tt, tt), (((λ variable is. cc), tt, tt), tt)), (λ variable occurs is. cc)));
+  is_graded = (node (Conjunction (Parallel None) (more_nodes ungraded (more_nodes ungraded no_nodes))) [] None nowhere, refl);
+  parallel = record { outputs = ((tt, (tt, tt)), (λ variable is. cc)); beside = refl; few = (omega arith, (omega arith, (tt, (tt, tt)))) };
+}
+
+-- one that fails is no conjunct of a parallel conjunction
+sound_beside-not : IsSoundTree empty integers nothing nothing [] (node (Conjunction (Parallel None) (more_nodes (node (Basic Fail) [] (Some Failure) nowhere) no_nodes)) [] (Some Failure) nowhere) → ⊥
+sound_beside-not sound = let faults = sound.parallel.beside in cc
 
 -- a goal that reads what is not bound before it
 sound-not : IsSoundTree empty integers (among (0 ∷ [])) nothing [] test → ⊥
