@@ -10,6 +10,7 @@ pub mod Serves
 pub mod Walks
 pub mod Joins
 pub mod Items
+pub mod Shown
 pub mod Depths
 pub mod Gives
 pub mod Forms

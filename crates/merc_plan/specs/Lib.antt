@@ -2,6 +2,7 @@ pub mod Branch
 pub mod Hold
 pub mod Branches
 pub mod BranchScript
+pub mod EachFork
 pub mod Plays
 pub mod Stands
 pub mod PlanLists
