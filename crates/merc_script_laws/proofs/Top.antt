@@ -22,6 +22,7 @@ use Rattle.merc_plan.specs.Hold.{holding}
 use Rattle.merc_plan.specs.Branches.{Plan, call_branch, first_name, root_branch}
 use Rattle.merc_plan.specs.EachFork.{EachFork, JoinShows}
 use Rattle.merc_plan.specs.BranchScript.{script, no_numbers, shown_by}
+use Rattle.merc_plan.proofs.Deep.{node_deep}
 use Rattle.merc_plan.proofs.Depths.{counted_law}
 use Rattle.merc_plan.proofs.EachForks.{each_fork}
 use Rattle.merc_plan.proofs.Flat.{Like, events}
@@ -94,4 +95,4 @@ module _ (known : Module) (trees : List Node) (sound : IsSoundProgram known tree
 
   pub alone_joins : EachFork (JoinShows program) true limit [] alone
   alone_joins =
-      each_fork program true alone limit (suc limit) [] (omega (arith)) (node_deep plan split_trees (suc limit) (split_goal trees tree) (holding [] first_name)) alone_served alone_along.1
+      each_fork program true alone limit [] (node_deep plan split_trees limit (suc limit) (omega (arith)) (split_goal trees tree) (holding [] first_name)) alone_served alone_along.1
