@@ -1,13 +1,12 @@
 -- Of each fork that a branch's script reaches, the conjuncts' scripts join to what the fork's goals show one after the other.
-use Rattle.std.proofs.Common.{◌≡◌, ℕ, zero, suc, ◌-◌, Bool, true, false, List, ◌++◌, refl, sym, subst, ◌∙◌, arith}
+use Rattle.std.proofs.Common.{ℕ, zero, suc, ◌-◌, Bool, true, false, List, ◌++◌, refl, sym, subst, ◌∙◌, arith}
 use Rattle.merc_meaning.specs.Trace.{Env, Trace, Ends, Tick, Answer as TraceAnswer, Done as TraceDone, Raised as TraceRaised, TooDeep as TraceTooDeep}
 use Rattle.merc_meaning.specs.Runs.{Program, all_trace, call_trace}
-use Rattle.merc_script.specs.Script.{ends}
 use Rattle.merc_core.specs.Rights.{without}
 use Rattle.merc_plan.specs.Branch.{Hold, Fork, BranchCourse, BranchCourses, Over, Breaks, Steps, Finds, Awaits, Gives, Forks, no_branches, more_branches, Raised, TooDeep, Starving, names}
 use Rattle.merc_plan.specs.BranchScript.{script, scripts, signalled, all_signalled}
 use Rattle.merc_plan.specs.EachFork.{EachFork, EachForkInTurn, IsDeepEnough, JoinShows}
-use Rattle.merc_plan.proofs.Flat.{Flat, Done, Halts, Tick as FlatTick, Answer, Det, Answers, Enough, Like, behind, events}
+use Rattle.merc_plan.proofs.Flat.{Flat, Done, Halts, Tick as FlatTick, Answer, Det, Answers, Enough, behind, events}
 use Rattle.merc_plan.proofs.Judging.{flat, flats, Served, AllServed, Sure, AllSure}
 use Rattle.merc_plan.proofs.Likes.{like_det, like_back, like_enough, like_seen}
 use Rattle.merc_plan.proofs.Walks.{answers_of}

@@ -1,17 +1,17 @@
 -- Worked examples of what holds of each fork that a script reaches, and of conjuncts' scripts that join to what their goals show one after the other.
-use Rattle.std.specs.Prelude.{◌≡◌, ℕ, zero, suc, pos, ◌==◌, true, false, [], ◌∷◌, Option, Some, None, if◌then◌else◌, refl}
+use Rattle.std.specs.Prelude.{◌≡◌, ℕ, zero, suc, ◌==◌, true, false, [], ◌∷◌, Some, None, if◌then◌else◌, refl}
 use Rattle.std.proofs.Common.{subst, ap, sym, arith}
 use Rattle.std.proofs.lemmas.Bool.Decides.{nat_tests}
 use Rattle.merc_base.specs.declared.category.Category.TheVariants.{Det}
-use Rattle.merc_value.specs.Value.{Value, Int, Text}
+use Rattle.merc_value.specs.Value.{Value, Text}
 use Rattle.merc_graded_tree.specs.declared.basic.BasicGoal.TheVariants.{True, Raise as RaiseText, Call}
-use Rattle.merc_graded_tree.specs.Nodes.{Node, Basic, Nodes, no_nodes, nodes_of}
+use Rattle.merc_graded_tree.specs.Nodes.{Node, Basic, no_nodes, nodes_of}
 use Rattle.merc_graded_tree.specs.Variables.{in_nodes}
-use Rattle.merc_meaning.specs.Trace.{Env, Ends as TraceEnds, Tick, Answer, Done, TooDeep, one_answer, each, first_alone, cut}
+use Rattle.merc_meaning.specs.Trace.{Env, Ends as TraceEnds, Tick, Answer, TooDeep, one_answer, each, first_alone, cut}
 use Rattle.merc_meaning.specs.Steps.{value_at, raised}
 use Rattle.merc_meaning.specs.Runs.{Program}
 use Rattle.merc_meaning.specs.RunExamples.{graded, procedure}
-use Rattle.merc_script.specs.declared.outcome.Outcome.TheVariants.{Ok as Fine, Raise, Limit}
+use Rattle.merc_script.specs.declared.outcome.Outcome.TheVariants.{Ok as Fine, Raise}
 use Rattle.merc_script.specs.Script.{Ends, TickThen, Children, NoChild, Child}
 use Rattle.merc_plan.specs.Branch.{HeldWait, Hold, Fork, BranchCourse, BranchCourses, Over, Breaks, Steps, Finds, Forks, no_branches, more_branches, Raised}
 use Rattle.merc_plan.specs.Hold.{holding}
