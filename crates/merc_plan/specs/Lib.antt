@@ -9,6 +9,7 @@ pub mod PlanLists
 pub mod Counting
 pub mod Laws
 pub mod PlaysExamples
+pub mod EachForkExamples
 pub mod StandsExamples
 pub mod BranchExamples
 pub mod HoldExamples
