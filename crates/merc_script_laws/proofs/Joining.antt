@@ -20,8 +20,8 @@ use Rattle.merc_script.specs.Script.{ends}
 use Rattle.merc_script.specs.Joining.{joined}
 use Rattle.merc_script.specs.declared.cells.Move.{Move}
 use Rattle.merc_core.specs.Rights.{has, moved_to, without}
-use Rattle.merc_par_split.specs.declared.sites.SiteInfo.{SiteInfo}
-use Rattle.merc_par_split.specs.Rights.{Right, right_to, wait_at, between}
+use Rattle.merc_rights.specs.declared.sites.SiteInfo.{SiteInfo}
+use Rattle.merc_rights.specs.Rights.{Right, right_to, wait_at, between}
 use Rattle.merc_par_split.specs.Split.{may_fail, placed_conjuncts, split}
 use Rattle.merc_par_split.specs.Sites.{planned_conjuncts, site_info, sites}
 use Rattle.merc_plan.specs.Branch.{HeldWait, Hold, Fork, BranchCourse, BranchCourses, Over, Breaks, Steps, Finds, Awaits, Gives, Forks, no_branches, more_branches, Raised, TooDeep, Starving, names, after as c_after, each as c_each, first_alone as c_first}
