@@ -82,7 +82,7 @@ module _ (plan : Plan) (program : Program) (call : Procedure → Env → GoalCou
     goal-plays (Conjunction Sequential ns) hold = all-plays ns hold
     goal-plays (Conjunction (Parallel None) ns) hold = all-plays ns hold
     goal-plays (Conjunction (Parallel (Some site)) ns) hold =
-        forks site.number (fork_of (info_of (plan site.number)) hold) _ _ _ _ (kids-play (info_of (plan site.number)) 1 ns hold [])
+        forks site.number (fork_of (info_of (plan site.number)) ns hold) _ _ _ _ (kids-play (info_of (plan site.number)) 1 ns hold [])
         (λ n. finds (hold_behind (info_of (plan site.number)) hold (conjunct_gifts plan program branch (info_of (plan site.number)) hold 1 ns [])) _ _ ends_done)
     goal-plays (Disjunction ns) hold = any-plays ns hold
     goal-plays (Switch x arms) hold = arms-plays arms (value_at hold.env x) hold

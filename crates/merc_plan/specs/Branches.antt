@@ -103,7 +103,7 @@ module _ (plan : Plan) (program : Program) (call : Procedure → Hold → Branch
     goal_branch (Conjunction (Parallel None) goals) hold = all_branch goals hold
     goal_branch (Conjunction (Parallel (Some site)) goals) hold =
         let info = info_of (plan site.number) in
-        Forks site.number (fork_of info hold) (conjunct_branches info hold 1 goals []) (one_answer (hold_behind info hold (conjunct_gifts info hold 1 goals [])))
+        Forks site.number (fork_of info goals hold) (conjunct_branches info hold 1 goals []) (one_answer (hold_behind info hold (conjunct_gifts info hold 1 goals [])))
     goal_branch (Disjunction goals) hold = any_branch goals hold
     goal_branch (Switch variable arms) hold = arms_branch arms (value_at hold.env variable) hold
     goal_branch (Conditional condition then_part else_part) hold =

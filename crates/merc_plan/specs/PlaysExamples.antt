@@ -76,7 +76,12 @@ program procedure = None
 -- The course of the branch: X has the cell 1 and Y the cell 2, and each conjunct has used its rights where it has answered.
 
 abbrev pub fork : Fork
-fork = record { cells = record { cell = 1; variable = 0; producer = 1; consumer = 2 } ∷ record { cell = 2; variable = 1; producer = 2; consumer = 0 } ∷ []; moves = [] }
+fork = record {
+  cells = record { cell = 1; variable = 0; producer = 1; consumer = 2 } ∷ record { cell = 2; variable = 1; producer = 2; consumer = 0 } ∷ [];
+  moves = [];
+  goals = nodes_of (first ∷ second ∷ []);
+  before = holding [] 1;
+}
 
 abbrev first_branch : BranchCourse
 first_branch = Gives 1 one (Finds (holding (int 1 ∷ []) 3) Over)

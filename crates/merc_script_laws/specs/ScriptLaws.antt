@@ -77,49 +77,8 @@ abbrev pub GoalsStandAtScripts : Type 0
 GoalsStandAtScripts = OfEachGoal (λ found trees tree limit.
     Stands (value_in (cells_of (goal_script found.preds trees tree limit))) (course (split_program found.preds trees) (split_goal trees tree) limit) (goal_script found.preds trees tree limit))
 
--- Each `&` by itself, wherever it stands.
-
--- Given are a module and the types of a goal's variables; which of these occur outside the goal, which are bound before it, and which symbols are known before it.
-module _ (known : Module) (types : ℕ → TypeExpr) (outside : Variables) (bound : Bound) (seen : Known) where
-  -- A goal as it stands in an accepted module: typed, with each variable bound before it is read and free before it is written, and with its categories.
-  pub record IsSoundTree (tree : Node) : Type 0 where
-    pub typed : IsTypedTree known types tree
-    pub literals : HasLiterals tree
-    pub binds : GoodNode (modes_of known.preds) outside bound tree
-    pub is_graded : (without : Node) × (tree ≡ graded known.types (modes_of known.preds) types seen without)
-    pub parallel : IsParallelTree (modes_of known.preds) tree
-
-  -- What the goal is entered with, where type variables stand for these types: of its variables exactly the bound ones have values, each value is of its
-  -- variable's type, and has the symbol that is known of it.
-  pub record Enters (instance : ℕ → TypeExpr) (tree : Node) (env : Env) : Type 0 where
-    pub bindings : (variable : ℕ) → in_node tree variable ≡ true → is_some (value_at env variable) ≡ bound variable
-    pub outer : (variable : ℕ) → in_node tree variable ≡ true → bound variable ≡ true → outside variable ≡ true
-    pub of_types : (variable : ℕ) (value : Value) → value_at env variable ≡ Some value → HasType known.types value (replaced instance (types variable))
-    pub symbols : (variable : ℕ) (symbol : Symbol) → known_of seen variable ≡ Some symbol
-        → (value : Value) × (arguments : Values) × (value_at env variable ≡ Some value) × (fields symbol value ≡ Some arguments)
-
--- the course of a goal behind these procedures that begins with these values and no rights, and its script
-abbrev pub alone_course : List PredDecl → List Node → Node → Env → ℕ → BranchCourse
-alone_course predicates trees goal env limit =
-    node_branch (split_plan trees goal) (split_program predicates trees) (call_branch (split_plan trees goal) (split_program predicates trees) (suc limit)) (split_goal trees goal) (holding env first_name)
-
-abbrev pub alone_script : List PredDecl → List Node → Node → Env → ℕ → Script
-alone_script predicates trees goal env limit = numbered no_numbers 0 (script true limit 0 [] (alone_course predicates trees goal env limit))
-
--- the courses of the conjuncts of an `&` with these outputs, where it stands so
-abbrev pub conjunct_courses : List PredDecl → List Node → Node → List ℕ → Nodes → Env → ℕ → BranchCourses
-conjunct_courses predicates trees whole outputs goals env limit =
-    conjunct_branches (split_plan trees whole) (split_program predicates trees) (call_branch (split_plan trees whole) (split_program predicates trees) (suc limit)) (site_info outputs [] [] goals)
-    (holding env first_name) 1 (placed_conjuncts (suc (length (all_sites trees))) 1 outputs [] [] [] goals) []
-
--- What its conjuncts' scripts join to is what its goals show one after the other, and its script, with theirs, is well formed.
+-- The scripts of each `&` that its script reaches join to what its goals show one after the other, from the values that are there or owed: in conjuncts too, in
+-- procedures that it calls, and where rights have moved into it.
 abbrev pub JoinsShowTraces : Type 0
-JoinsShowTraces =
-    (before after : List (List ℕ)) (text : List ℕ) (items : List Term) (found : Module) (trees : List Node) → IsChecked before after text items found trees
-    → (place : Option Site) (goals : Nodes) (outputs : List ℕ) (category : Option Category) (span : Span) →
-    let whole = node (Conjunction (Parallel place) goals) outputs category span in
-    (types : (ℕ → TypeExpr)) (outside : Variables) (bound : Bound) (seen : Known) → IsSoundTree found types outside bound seen whole
-    → (instance : (ℕ → TypeExpr)) (env : Env) → Enters found types outside bound seen instance whole env → (limit : ℕ) → limit ≤ most_steps
-    → (joined limit (ends (scripts limit [] (conjunct_courses found.preds trees whole outputs goals env limit)))
-    ≡ shown_by 0 (cut limit (all_trace (program_with found.preds trees) (call_trace (program_with found.preds trees) (suc limit)) goals env)))
-    × WellFormed (alone_script found.preds trees whole env limit)
+JoinsShowTraces = OfEachGoal (λ found trees tree limit.
+    EachFork (JoinShows (program_with found.preds trees)) true limit [] (root_branch (split_plan trees tree) (split_program found.preds trees) (suc limit) (split_goal trees tree)))
