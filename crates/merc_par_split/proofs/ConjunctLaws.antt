@@ -6,13 +6,13 @@ use Rattle.std.proofs.lemmas.Bool.Decides.{nat_tests}
 use Rattle.std.proofs.lemmas.List.{append_assoc, append-nil, map-append}
 use Rattle.merc_graded_tree.specs.Nodes.{Node, Nodes, nodes_of, outputs_of}
 use Rattle.merc_graded_tree.specs.Variables.{among, in_node}
-use Rattle.merc_par_split.specs.Members.{uses_it, wait_shares, consumers_behind, waits_at}
-use Rattle.merc_par_split.specs.Outcomes.{rights_of, fresh, moves}
-use Rattle.merc_par_split.specs.Rights.{right_to, used_in, users}
-use Rattle.merc_par_split.specs.Rows.{row_of, numbers_from, each_from}
+use Rattle.merc_rights.specs.Members.{uses_it, wait_shares, consumers_behind, waits_at}
+use Rattle.merc_rights.specs.Waits.{rights_of, fresh, moves}
+use Rattle.merc_rights.specs.Rights.{right_to, used_in, users}
+use Rattle.merc_rights.specs.Rows.{row_of, numbers_from, each_from}
 use Rattle.merc_par_split.specs.Sites.{consumers}
-use Rattle.merc_par_split.specs.declared.rights.Awaited.{Awaited}
-use Rattle.merc_par_split.proofs.Indexes.{row-append}
+use Rattle.merc_rights.specs.declared.rights.Awaited.{Awaited}
+use Rattle.merc_rights.proofs.Indexes.{row-append}
 use Rattle.merc_par_split.proofs.ShareLaws.{le-none, flat-those, flat-map-those}
 
 -- what each item gives, in rows

@@ -15,12 +15,13 @@ use Rattle.merc_graded_tree.specs.Roots.{arity_of, arms_of, bodies_of}
 use Rattle.merc_graded_tree.specs.Labels.{labels_of, inner_labels, arm_labels, all_labels}
 use Rattle.merc_graded_tree.specs.Variables.{in_node}
 use Rattle.merc_par_split.specs.Constructs.{whole_tasks, turn_tasks, arm_tasks, switch_tasks, conditional_tasks, LeavesConjuncts, LeavesRunning}
-use Rattle.merc_par_split.specs.Members.{turn_wait, turn_signal, wait_shares, signal_shares, pass_shares}
-use Rattle.merc_par_split.specs.Outcomes.{rights_of, those_waits, others, stays}
-use Rattle.merc_par_split.specs.Rights.{Right, right_to}
-use Rattle.merc_par_split.specs.Tasks.{with_outcome, node_entered, after_all, HaveEnough, effort, total, Lies, AllLie, Performs, shares_of, member_tasks, relabelled, framed}
-use Rattle.merc_par_split.specs.declared.rights.Awaited.{Awaited}
-use Rattle.merc_par_split.specs.declared.sites.SiteInfo.{SiteInfo}
+use Rattle.merc_rights.specs.Members.{turn_wait, turn_signal, wait_shares, signal_shares, pass_shares}
+use Rattle.merc_rights.specs.Waits.{rights_of, those_waits, others, stays}
+use Rattle.merc_rights.specs.Rights.{Right, right_to}
+use Rattle.merc_par_split.specs.Tasks.{with_outcome, node_entered, after_all, HaveEnough, effort, total, AllLie, Performs, shares_of, member_tasks, relabelled, framed}
+use Rattle.merc_rights.specs.Places.{Lies}
+use Rattle.merc_rights.specs.declared.rights.Awaited.{Awaited}
+use Rattle.merc_rights.specs.declared.sites.SiteInfo.{SiteInfo}
 use Rattle.merc_par_split.specs.declared.tasks.Placing.{Placing}
 use Rattle.merc_par_split.specs.declared.tasks.Task.{Task}
 use Rattle.merc_par_split.specs.declared.tasks.Task.TheVariants.{Place, Enter, Waits, Signals, Close}

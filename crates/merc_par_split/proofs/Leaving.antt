@@ -11,19 +11,20 @@ use Rattle.merc_graded_tree.specs.declared.entries.Running.TheVariants.{Sequenti
 use Rattle.merc_graded_tree.specs.Nodes.{Node, outputs_of, span_of, nodes_of}
 use Rattle.merc_graded_tree.specs.Labels.{labels_of, all_labels}
 use Rattle.merc_graded_tree.specs.Variables.{in_node}
-use Rattle.merc_par_split.specs.Rights.{Right}
-use Rattle.merc_par_split.specs.Rows.{row_of}
-use Rattle.merc_par_split.specs.Members.{turn_wait, turn_signal, wait_shares, signal_shares, pass_shares, move_of, Finds, Adds}
-use Rattle.merc_par_split.specs.Outcomes.{rights_of, those_waits, others, moves, stays}
+use Rattle.merc_rights.specs.Rights.{Right}
+use Rattle.merc_rights.specs.Rows.{row_of}
+use Rattle.merc_rights.specs.Members.{turn_wait, turn_signal, wait_shares, signal_shares, pass_shares, move_of, Finds, Adds}
+use Rattle.merc_rights.specs.Waits.{rights_of, those_waits, others, moves, stays}
 use Rattle.merc_par_split.specs.Constructs.{turn_tasks, arm_tasks, conditional_tasks, site_tasks, LeavesConjuncts}
-use Rattle.merc_par_split.specs.Tasks.{Lies, Share, starts_of, shares_of, relabelled, passing, member_tasks, closed}
-use Rattle.merc_par_split.specs.declared.conjuncts.Found.{Found}
-use Rattle.merc_par_split.specs.declared.rights.Awaited.{Awaited}
-use Rattle.merc_par_split.specs.declared.sites.SiteInfo.{SiteInfo}
+use Rattle.merc_par_split.specs.Tasks.{Share, shares_of, relabelled, passing, member_tasks, closed}
+use Rattle.merc_rights.specs.Places.{Lies, starts_of}
+use Rattle.merc_rights.specs.declared.conjuncts.Found.{Found}
+use Rattle.merc_rights.specs.declared.rights.Awaited.{Awaited}
+use Rattle.merc_rights.specs.declared.sites.SiteInfo.{SiteInfo}
 use Rattle.merc_par_split.specs.declared.tasks.Placing.{Placing}
 use Rattle.merc_par_split.specs.declared.tasks.Task.{Task}
 use Rattle.merc_par_split.specs.declared.tasks.Task.TheVariants.{Place, Waits, Signals, Close}
-use Rattle.merc_par_split.proofs.MemberLaws.{all_labels-append, start_at}
+use Rattle.merc_rights.proofs.MemberLaws.{all_labels-append, start_at}
 
 pub ok_weaker : {X Y : Type 0} (result : Result X Y) (P Q : Type 0) → (P → Q) → OnOk result P → OnOk result Q
 ok_weaker (Ok x) P Q f holds = f holds

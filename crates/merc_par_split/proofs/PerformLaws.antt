@@ -8,13 +8,14 @@ use Rattle.merc_graded_tree.specs.declared.entries.Label.{Label}
 use Rattle.merc_graded_tree.specs.Labels.{labels_of}
 use Rattle.merc_graded_tree.specs.Nodes.{Node, node, category_of, span_of}
 use Rattle.merc_graded_tree.specs.Roots.{arity_of, last_joined, labelled}
-use Rattle.merc_par_split.specs.Rights.{Right, wait_at, signal_at, around}
+use Rattle.merc_rights.specs.Rights.{Right, wait_at, signal_at, around}
 use Rattle.merc_par_split.specs.Split.{may_fail, split}
 use Rattle.merc_par_split.specs.Sites.{sites}
 use Rattle.merc_par_split.specs.Outcomes.{outcome, entered}
-use Rattle.merc_par_split.specs.Tasks.{Progress, with_goals, with_outcome, node_entered, after, after_all, HaveEnough, effort, total, Lies, LiesTask, AllLie, Performs, wraps, placed_tasks}
-use Rattle.merc_par_split.specs.declared.rights.Awaited.{Awaited}
-use Rattle.merc_par_split.specs.declared.sites.SiteInfo.{SiteInfo}
+use Rattle.merc_par_split.specs.Tasks.{Progress, with_goals, with_outcome, node_entered, after, after_all, HaveEnough, effort, total, LiesTask, AllLie, Performs, wraps, placed_tasks}
+use Rattle.merc_rights.specs.Places.{Lies}
+use Rattle.merc_rights.specs.declared.rights.Awaited.{Awaited}
+use Rattle.merc_rights.specs.declared.sites.SiteInfo.{SiteInfo}
 use Rattle.merc_par_split.specs.declared.tasks.Placing.{Placing}
 use Rattle.merc_par_split.specs.declared.tasks.Task.{Task}
 use Rattle.merc_par_split.specs.declared.tasks.Task.TheVariants.{Place, Enter, Waits, Signals, Close}

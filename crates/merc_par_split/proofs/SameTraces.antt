@@ -17,7 +17,7 @@ use Rattle.merc_meaning.specs.Values.{fields}
 use Rattle.merc_meaning.specs.Trace.{Env, Trace, Ends, Tick, Answer, Done, Raised, TooDeep, one_answer, after, each, first_alone, choose, negated, cut}
 use Rattle.merc_meaning.specs.Steps.{value_at}
 use Rattle.merc_meaning.specs.Runs.{Program, ProcedureBody, answers_once, once_if, called, where_some, basic_trace, goal_trace, node_trace, all_trace, any_trace, arms_trace, body_trace, call_trace, run}
-use Rattle.merc_par_split.specs.Rights.{Right, right_to, those, used_in, unused_in, passed_by, bound_in, unbound_in, wait_at, signal_at, between, around, ahead_of, signals_of}
+use Rattle.merc_rights.specs.Rights.{Right, right_to, those, used_in, unused_in, passed_by, bound_in, unbound_in, wait_at, signal_at, between, around, ahead_of, signals_of}
 use Rattle.merc_par_split.specs.Forks.{forks}
 use Rattle.merc_par_split.specs.Split.{may_fail, nothing, moves_in, placed, placed_goal, placed_in_turn, placed_conjuncts, placed_arms, placed_alone, split}
 use Rattle.merc_par_split.specs.SplitLaws.{split_body, split_program}
@@ -190,7 +190,7 @@ module _ (program other : Program) (call : Procedure → Env → Trace) (calls :
         (new (placed site here (used_in first waits) (bound_in first signals) first) env)
         ∙ ap (each (λ inner. all_trace program call rest inner)) (placed_same first site here (used_in first waits) (bound_in first signals) env)
 
-    pub conjuncts_same : (goals : Nodes) (site number : ℕ) (outputs : List ℕ) (waits signals : List Right) (left : List ℕ) (env : Env)
+    conjuncts_same : (goals : Nodes) (site number : ℕ) (outputs : List ℕ) (waits signals : List Right) (left : List ℕ) (env : Env)
         → all (placed_conjuncts site number outputs waits signals left goals) env ≡ all_trace program call goals env
     conjuncts_same no_nodes site number outputs waits signals left env = refl
     conjuncts_same (more_nodes first rest) site number outputs waits signals left env =

@@ -12,18 +12,19 @@ use Rattle.merc_graded_tree.specs.Roots.{labelled}
 use Rattle.merc_graded_tree.specs.RootLaws.{nodes_of-list_of}
 use Rattle.merc_graded_tree.specs.Variables.{in_node}
 use Rattle.merc_par_split.specs.Constructs.{LeavesConjuncts, site_tasks}
-use Rattle.merc_par_split.specs.Members.{wait_shares, waits_at, signals_at, move_of}
-use Rattle.merc_par_split.specs.Outcomes.{rights_of, fresh, moves, stays, outcome, side_by_side}
-use Rattle.merc_par_split.specs.Rights.{Right, right_to, used_in, signals_of, wait_at, between}
-use Rattle.merc_par_split.specs.Rows.{row_of, each_from}
+use Rattle.merc_rights.specs.Members.{wait_shares, waits_at, signals_at, move_of}
+use Rattle.merc_par_split.specs.Outcomes.{outcome, side_by_side}
+use Rattle.merc_rights.specs.Waits.{rights_of, fresh, moves, stays}
+use Rattle.merc_rights.specs.Rights.{Right, right_to, used_in, signals_of, wait_at, between}
+use Rattle.merc_rights.specs.Rows.{row_of, each_from}
 use Rattle.merc_par_split.specs.Sites.{site_info, count, cells_of, signal_moves, are_for}
 use Rattle.merc_par_split.specs.Tasks.{with_outcome, after_all, shares_of, shared, member_tasks, relabelled, framed}
-use Rattle.merc_par_split.specs.declared.rights.Awaited.{Awaited}
-use Rattle.merc_par_split.specs.declared.sites.SiteInfo.{SiteInfo}
+use Rattle.merc_rights.specs.declared.rights.Awaited.{Awaited}
+use Rattle.merc_rights.specs.declared.sites.SiteInfo.{SiteInfo}
 use Rattle.merc_par_split.specs.declared.tasks.Placing.{Placing}
 use Rattle.merc_par_split.specs.declared.tasks.Task.{Task}
 use Rattle.merc_par_split.specs.declared.tasks.Task.TheVariants.{Waits}
-use Rattle.merc_par_split.proofs.Indexes.{row-append}
+use Rattle.merc_rights.proofs.Indexes.{row-append}
 use Rattle.merc_par_split.proofs.ShareLaws.{outcome-same}
 use Rattle.merc_par_split.proofs.StepLaws.{at_with, after-append, members_done, framed_done}
 use Rattle.merc_par_split.proofs.ConstructLaws.{share-count, entered_as}

@@ -9,13 +9,13 @@ use Rattle.merc_graded_tree.specs.declared.entries.Running.TheVariants.{Sequenti
 use Rattle.merc_graded_tree.specs.Nodes.{Node, outputs_of, span_of, nodes_of}
 use Rattle.merc_graded_tree.specs.Labels.{labels_of}
 use Rattle.merc_graded_tree.specs.Variables.{in_node}
-use Rattle.merc_par_split.specs.Rights.{Right, right_to}
-use Rattle.merc_par_split.specs.Members.{turn_wait, turn_signal, wait_shares, signal_shares, pass_shares, move_of, Finds, Adds}
-use Rattle.merc_par_split.specs.Outcomes.{rights_of, those_waits, others, moves, stays}
+use Rattle.merc_rights.specs.Rights.{Right, right_to}
+use Rattle.merc_rights.specs.Members.{turn_wait, turn_signal, wait_shares, signal_shares, pass_shares, move_of, Finds, Adds}
+use Rattle.merc_rights.specs.Waits.{rights_of, those_waits, others, moves, stays}
 use Rattle.merc_par_split.specs.Tasks.{closed, framed, member_tasks, relabelled, shares_of}
-use Rattle.merc_par_split.specs.declared.conjuncts.Found.{Found}
-use Rattle.merc_par_split.specs.declared.rights.Awaited.{Awaited}
-use Rattle.merc_par_split.specs.declared.sites.SiteInfo.{SiteInfo}
+use Rattle.merc_rights.specs.declared.conjuncts.Found.{Found}
+use Rattle.merc_rights.specs.declared.rights.Awaited.{Awaited}
+use Rattle.merc_rights.specs.declared.sites.SiteInfo.{SiteInfo}
 use Rattle.merc_par_split.specs.declared.tasks.Placing.{Placing}
 use Rattle.merc_par_split.specs.declared.tasks.Task.{Task}
 use Rattle.merc_par_split.specs.declared.tasks.Task.TheVariants.{Place, Waits, Signals, Close}

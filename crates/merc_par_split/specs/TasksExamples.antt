@@ -3,20 +3,21 @@ use Rattle.std.specs.Prelude.{◌≡◌, ◌≤◌, ◌<◌, ℕ, List, [], ◌�
 use Rattle.std.proofs.Common.{arith}
 use Rattle.merc_base.specs.declared.category.Category.TheVariants.{Det}
 use Rattle.merc_base.specs.declared.place.Span.{Span}
-use Rattle.merc_graded_tree.specs.declared.basic.BasicGoal.TheVariants.{Test, Assign, Wait, Signal}
+use Rattle.merc_graded_tree.specs.declared.basic.BasicGoal.TheVariants.{Test, Assign, Wait}
 use Rattle.merc_graded_tree.specs.declared.entries.Label.{Label}
 use Rattle.merc_graded_tree.specs.declared.entries.Root.TheVariants.{Conjunction as ConjunctionRoot}
 use Rattle.merc_graded_tree.specs.declared.entries.Running.TheVariants.{Sequential, Parallel}
 use Rattle.merc_graded_tree.specs.Labels.{labels_of}
 use Rattle.merc_graded_tree.specs.Nodes.{Node, node, Basic, Conjunction, nodes_of}
-use Rattle.merc_par_split.specs.declared.sites.SiteInfo.{SiteInfo}
+use Rattle.merc_rights.specs.declared.sites.SiteInfo.{SiteInfo}
 use Rattle.merc_par_split.specs.declared.tasks.Placing.{Placing}
 use Rattle.merc_par_split.specs.declared.tasks.Task.{Task}
 use Rattle.merc_par_split.specs.declared.tasks.Task.TheVariants.{Place, Enter, Waits, Signals, Close}
 use Rattle.merc_par_split.specs.Constructs.{turn_tasks, site_tasks, LeavesRunning}
-use Rattle.merc_par_split.specs.Outcomes.{fresh}
-use Rattle.merc_par_split.specs.Rights.{Right, right_to}
-use Rattle.merc_par_split.specs.Tasks.{Progress, after, after_all, HaveEnough, effort, total, Lies, AllLie, Performs, starts_of, shares_of, relabelled, wraps, passing, placed_tasks}
+use Rattle.merc_rights.specs.Waits.{fresh}
+use Rattle.merc_rights.specs.Rights.{Right, right_to}
+use Rattle.merc_par_split.specs.Tasks.{Progress, after, after_all, HaveEnough, effort, total, AllLie, Performs, shares_of, relabelled, wraps, passing, placed_tasks}
+use Rattle.merc_rights.specs.Places.{Lies}
 
 abbrev nowhere : Span
 nowhere = record { first = 0; past = 0; line = 1 }
@@ -69,21 +70,6 @@ effort-example = refl
 
 total-example : total (Place (placing copies 0 []) ∷ one_wait ∷ []) ≡ 13
 total-example = refl
-
--- labels among others
-
-Lies-example : Lies (label 2 ∷ label 3 ∷ label 4 ∷ []) 1 (label 3 ∷ [])
-Lies-example = record { front = label 2 ∷ []; back = label 4 ∷ []; are = refl; count = refl }
-
-none_are : (front back : List Label) → [] ≡ front ++ (label 2 ∷ back) → ⊥
-none_are [] back are = cc
-none_are (first ∷ rest) back are = cc
-
-Lies-not : Lies [] 0 (label 2 ∷ []) → ⊥
-Lies-not lies = none_are lies.front lies.back lies.are
-
-starts_of-example : starts_of 3 (copies ∷ in_turn (tests ∷ copies ∷ []) ∷ []) ≡ 3 ∷ 4 ∷ 7 ∷ []
-starts_of-example = refl
 
 -- each goal with the rights of its number
 

@@ -5,24 +5,23 @@ ghost use Rattle.merc_graded_tree.specs.Labels.{all_labels, arm_labels, labels_o
 ghost use Rattle.merc_graded_tree.specs.Roots.{arms_of};
 ghost use Rattle.merc_graded_tree.specs.Nodes.{Node};
 ghost use Rattle.merc_par_split.specs.Constructs.{arm_tasks, conditional_tasks, site_tasks, switch_tasks, turn_tasks, whole_tasks, LeavesConjuncts, LeavesRunning};
-ghost use Rattle.merc_par_split.specs.Rights.{right_to};
+ghost use Rattle.merc_rights.specs.Rights.{right_to};
 ghost use Rattle.merc_par_split.specs.Split.{may_fail};
-ghost use Rattle.merc_par_split.specs.Tasks.{closed, member_tasks, placed_tasks, relabelled, shares_of, starts_of, Lies, Performs};
+ghost use Rattle.merc_par_split.specs.Tasks.{closed, member_tasks, placed_tasks, relabelled, shares_of, Performs};
+ghost use Rattle.merc_rights.specs.Places.{starts_of, Lies};
 ghost use Rattle.merc_par_split.specs.declared.tasks.Task.{Task};
 
-use crate::arms::{bound_shares, passed, put_shares};
-use crate::conjuncts::{Found, found_at, put_moved};
-use crate::members::{Members, leave_members, listed};
-use crate::occurrences::Occurrences;
-use crate::parting::{part_by_moves, part_by_use, part_by_variable, rights};
-use crate::rights::{Awaited, Right};
-use crate::rows::Rows;
-use crate::sites::SiteInfo;
-use crate::tasks::{Placing, Task, Tasks, leave_wrap, relabelled, sum};
-use crate::turns::{signals_in_turn, waits_in_turn};
+use crate::members::leave_members;
+use crate::tasks::{Placing, Task, Tasks, leave_wrap, relabelled};
 use merc_base::{Category, NoMemory, Sequence};
 use merc_goal_tree::{Symbol, Var, Vars};
 use merc_graded_tree::{BasicGoal, NodeRef, NodeView, Parts, Root, Running, Site};
+use merc_rights::parting::rights;
+use merc_rights::{
+    Awaited, Found, Members, Occurrences, Right, Rows, SiteInfo, bound_shares, found_at, listed,
+    part_by_moves, part_by_use, part_by_variable, passed, put_moved, put_shares, signals_in_turn,
+    sum, waits_in_turn,
+};
 use std::alloc::Global;
 
 // A goal whose category is not known may fail.

@@ -3,18 +3,16 @@ ghost use Rattle.std.specs.Prelude.{◌≡◌, [], ◌∷◌, ◌++◌, length, 
 ghost use Rattle.std.specs.Prelude.{Some};
 ghost use Rattle.merc_graded_tree.specs.Nodes.{node, Basic};
 ghost use Rattle.merc_base.specs.declared.category.Category.{Category};
-ghost use Rattle.merc_par_split.specs.Rights.{signal_at, wait_at};
+ghost use Rattle.merc_rights.specs.Rights.{signal_at, wait_at};
 ghost use Rattle.merc_par_split.specs.Sites.{sites as planned_sites};
 ghost use Rattle.merc_par_split.specs.Split.{split};
 ghost use Rattle.merc_par_split.specs.Tasks.{HaveEnough, LiesTask, Performs};
 
-use crate::occurrences::Occurrences;
 use crate::placing::{enter, place, without_rights};
-use crate::rights::Right;
-use crate::sites::SiteInfo;
 use crate::tasks::{Task, Tasks};
 use merc_base::{Category, NoMemory, Sequence, Span};
 use merc_graded_tree::{BasicGoal, Label, NodeRef, Nodes, Root};
+use merc_rights::{Occurrences, Right, SiteInfo};
 use std::alloc::Global;
 
 /// Puts the split tree of a goal behind the others, and its sites behind the others. The parallel conjunctions of the goal

@@ -1,12 +1,11 @@
 //! What is to be done to split goals, so that they are gone through without recursion.
-ghost use Rattle.std.specs.Prelude.{◌≡◌, [], ◌∷◌, ◌++◌, ◌+◌, length, IfOk, OnOk, MatchOption};
+ghost use Rattle.std.specs.Prelude.{◌≡◌, [], ◌∷◌, ◌++◌, IfOk, OnOk, MatchOption};
 ghost use Rattle.merc_par_split.specs.declared.tasks.Task.{Task};
 ghost use Rattle.merc_par_split.specs.Tasks.{passing, relabelled, wraps};
-ghost use Rattle.merc_graded_tree.specs.Nodes.{span_of};
 
-use crate::rights::{Awaited, Right};
 use merc_base::{NoMemory, Sequence, Span};
 use merc_graded_tree::{Label, NodeRef, Root, Running};
+use merc_rights::{Awaited, Right, sum};
 use std::alloc::Global;
 use std::marker::Model;
 
@@ -145,18 +144,4 @@ pub(crate) fn leave_passing<'a>(
     }
     leave_wrap(alloc, goal, count, tasks)?;
     tasks.push(Task::Waits(rights, goal.span()))
-}
-
-/// Two numbers together.
-///
-/// # Errors
-///
-/// `NoMemory` where so many things need more memory than there is.
-pub(crate) fn sum(one: usize, other: usize) -> Result<usize, NoMemory>
-    ensures { IfOk result (λ both. both ≡ one + other) }
-{
-    match one.checked_add(other) {
-        Some(both) => Ok(both),
-        None => Err(NoMemory),
-    }
 }

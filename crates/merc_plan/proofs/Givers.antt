@@ -16,10 +16,10 @@ use Rattle.merc_meaning.specs.Steps.{value_at, values_at, made_if, binds, compar
 use Rattle.merc_meaning.specs.Runs.{Program, ProcedureBody, answers_once}
 use Rattle.merc_script.specs.declared.cells.Move.{Move}
 use Rattle.merc_core.specs.Rights.{has, is_kind, moved_to}
-use Rattle.merc_par_split.specs.declared.sites.CellInfo.{CellInfo}
-use Rattle.merc_par_split.specs.declared.sites.Moved.{Moved}
-use Rattle.merc_par_split.specs.declared.sites.SiteInfo.{SiteInfo}
-use Rattle.merc_par_split.specs.Rights.{is_sooner}
+use Rattle.merc_rights.specs.declared.sites.CellInfo.{CellInfo}
+use Rattle.merc_rights.specs.declared.sites.Moved.{Moved}
+use Rattle.merc_rights.specs.declared.sites.SiteInfo.{SiteInfo}
+use Rattle.merc_rights.specs.Rights.{is_sooner}
 use Rattle.merc_plan.specs.Branch.{HeldWait, HeldSignal, Hold, NamedCell, Gift, BranchCourse, names, gives}
 use Rattle.merc_plan.specs.Hold.{holding, with_env, wait_for, sooner, signal_for, named, own_signals, child_for, moves_if, moves_from, goes_to, signals_into, stays, fork_of, conjunct_hold, hold_behind}
 use Rattle.merc_plan.specs.Branches.{traced, awaited, signal_cell, signalled, called, where_some, taken_arm, info_of, Plan, basic_branch, goal_branch, node_branch, all_branch, any_branch, arms_branch, conjunct_branches, conjunct_gifts, body_branch, call_branch}

@@ -18,8 +18,8 @@ use Rattle.merc_meaning.specs.Trace.{Trace, Ends, Tick, Answer, Done, Raised as 
 use Rattle.merc_meaning.specs.Steps.{value_at, with_entry, values_at, made_if, binds, compared, split, operated, raised, entered, brought_back}
 use Rattle.merc_meaning.specs.Runs.{Program, ProcedureBody, answers_once}
 use Rattle.merc_core.specs.Rights.{has}
-use Rattle.merc_par_split.specs.declared.sites.CellInfo.{CellInfo}
-use Rattle.merc_par_split.specs.declared.sites.SiteInfo.{SiteInfo}
+use Rattle.merc_rights.specs.declared.sites.CellInfo.{CellInfo}
+use Rattle.merc_rights.specs.declared.sites.SiteInfo.{SiteInfo}
 use Rattle.merc_plan.specs.Branch.{HeldWait, Hold, NamedCell, Fork, Gift, gift_at, value_given, BranchCourse, BranchCourses, Over, Forks, names, gives, all_give, each}
 use Rattle.merc_plan.specs.Hold.{holding, with_env, wait_for, without_wait, signal_for, named, own_waits, child_for, goes_to, waits_into, stays, waits_kept, fork_of, conjunct_hold, hold_behind}
 use Rattle.merc_plan.specs.Branches.{first_name, one_answer, traced, awaited, signal_cell, signalled, once_if, called, where_some, taken_arm, info_of, Plan, basic_branch, goal_branch, node_branch, all_branch, any_branch, arms_branch, conjunct_branches, conjunct_gifts, body_branch, call_branch, root_branch}

@@ -13,7 +13,7 @@ use Rattle.merc_meaning.specs.Arithmetic.{comparison_of}
 use Rattle.merc_meaning.specs.Trace.{Trace, Ends, Tick, Answer, Done, Raised as RaisedEnd, TooDeep as TooDeepEnd}
 use Rattle.merc_meaning.specs.Steps.{value_at, with_entry, values_at, made_if, binds, compared, split, operated, raised, entered, brought_back}
 use Rattle.merc_meaning.specs.Runs.{Program, ProcedureBody, answers_once}
-use Rattle.merc_par_split.specs.declared.sites.SiteInfo.{SiteInfo}
+use Rattle.merc_rights.specs.declared.sites.SiteInfo.{SiteInfo}
 use Rattle.merc_plan.specs.Branch.{HeldWait, HeldSignal, Hold, Gift, BranchCourse, BranchCourses, Over, Breaks, Steps, Finds, Awaits, Gives, Forks, no_branches, more_branches, Raised, TooDeep, Starving, after, each, taken_back, first_alone, choose, negated, gives}
 use Rattle.merc_plan.specs.Hold.{holding, with_env, wait_for, without_wait, signal_for, without_signal, fork_of, conjunct_hold, hold_behind}
 

@@ -5,10 +5,10 @@ use Rattle.merc_graded_tree.specs.Nodes.{Node, Nodes}
 use Rattle.merc_meaning.specs.Trace.{Env}
 use Rattle.merc_script.specs.declared.cells.Move.{Move}
 use Rattle.merc_course.specs.Variables.{node_variables, only}
-use Rattle.merc_par_split.specs.declared.sites.CellInfo.{CellInfo}
-use Rattle.merc_par_split.specs.declared.sites.Moved.{Moved}
-use Rattle.merc_par_split.specs.declared.sites.SiteInfo.{SiteInfo}
-use Rattle.merc_par_split.specs.Rights.{is_sooner}
+use Rattle.merc_rights.specs.declared.sites.CellInfo.{CellInfo}
+use Rattle.merc_rights.specs.declared.sites.Moved.{Moved}
+use Rattle.merc_rights.specs.declared.sites.SiteInfo.{SiteInfo}
+use Rattle.merc_rights.specs.Rights.{is_sooner}
 use Rattle.merc_plan.specs.Branch.{HeldWait, HeldSignal, Hold, NamedCell, Fork, Gift, gift_at, value_given}
 
 -- a branch that holds no rights

@@ -12,7 +12,7 @@ use Rattle.merc_meaning.specs.Runs.{Program}
 use Rattle.merc_meaning.specs.RunExamples.{graded}
 use Rattle.merc_course.specs.Course.{GoalCourse, Reply, Ends, Tick, Meets, AtWait, AtSignal, no_courses, more_courses, one_answer}
 use Rattle.merc_course.specs.Courses.{node_course, call_course}
-use Rattle.merc_par_split.specs.declared.sites.SiteInfo.{SiteInfo}
+use Rattle.merc_rights.specs.declared.sites.SiteInfo.{SiteInfo}
 use Rattle.merc_par_split.specs.Split.{split}
 use Rattle.merc_par_split.specs.Sites.{sites}
 use Rattle.merc_plan.specs.Branch.{Fork, BranchCourse, Over, Breaks, Steps, Finds, Awaits, Gives, Forks, no_branches, more_branches, Starving}

@@ -28,7 +28,7 @@ use Rattle.merc_program_laws.proofs.Lawful.{Fits}
 use Rattle.merc_program_laws.proofs.Calls.{LawfulCalls}
 use Rattle.merc_program_laws.proofs.Graded.{ends_zero}
 use Rattle.merc_core.specs.Rights.{has}
-use Rattle.merc_par_split.specs.Rights.{Right, those, used_in, passed_by, bound_in, wait_at, ahead_of}
+use Rattle.merc_rights.specs.Rights.{Right, those, used_in, passed_by, bound_in, wait_at, ahead_of}
 use Rattle.merc_par_split.specs.Sites.{are_for}
 use Rattle.merc_plan.specs.Branch.{HeldSignal, Hold, Gift, BranchCourse, each as c_each}
 use Rattle.merc_plan.specs.Branches.{Plan, once_if as c_once, node_branch}

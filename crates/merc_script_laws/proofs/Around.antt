@@ -11,7 +11,7 @@ use Rattle.merc_meaning.specs.Steps.{value_at}
 use Rattle.merc_meaning.specs.Runs.{Program}
 use Rattle.merc_core.specs.Rights.{has, without}
 use Rattle.merc_core.specs.WellFormed.{AreDistinct}
-use Rattle.merc_par_split.specs.Rights.{Right, wait_at, signal_at}
+use Rattle.merc_rights.specs.Rights.{Right, wait_at, signal_at}
 use Rattle.merc_par_split.specs.Sites.{are_for}
 use Rattle.merc_plan.specs.Branch.{Hold, Gift, gift_at, Fork, BranchCourse, BranchCourses, Over, Breaks, Steps, Finds, Awaits, Gives, Forks, Starving, after, each, first_alone}
 use Rattle.merc_plan.specs.Hold.{wait_for}

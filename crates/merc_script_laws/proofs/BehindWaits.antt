@@ -13,7 +13,7 @@ use Rattle.merc_meaning.specs.Steps.{value_at}
 use Rattle.merc_meaning.specs.Runs.{Program}
 use Rattle.merc_core.specs.Rights.{has, without}
 use Rattle.merc_core.specs.WellFormed.{AreDistinct}
-use Rattle.merc_par_split.specs.Rights.{Right, right_to, wait_at}
+use Rattle.merc_rights.specs.Rights.{Right, right_to, wait_at}
 use Rattle.merc_par_split.specs.Sites.{are_for}
 use Rattle.merc_plan.specs.Branch.{HeldWait, Hold, NamedCell, Fork, Gift, gift_at, BranchCourse, BranchCourses, Breaks, Awaits, Starving, each, first_alone}
 use Rattle.merc_plan.specs.Hold.{wait_for, without_wait, own_waits, waits_kept}

@@ -28,9 +28,9 @@ use Rattle.merc_program_laws.proofs.Graded.{Graded}
 use Rattle.merc_program_laws.proofs.TreeCategories.{IsPart}
 use Rattle.merc_core.specs.Rights.{has}
 use Rattle.merc_core.specs.WellFormed.{AreDistinct}
-use Rattle.merc_par_split.specs.Rights.{Right}
+use Rattle.merc_rights.specs.Rights.{Right}
 use Rattle.merc_par_split.specs.Sites.{are_for}
-use Rattle.merc_par_split.specs.declared.sites.SiteInfo.{SiteInfo}
+use Rattle.merc_rights.specs.declared.sites.SiteInfo.{SiteInfo}
 use Rattle.merc_plan.specs.Branch.{HeldWait, HeldSignal, Hold, Gift, gift_at, BranchCourse}
 use Rattle.merc_plan.specs.Hold.{wait_for}
 use Rattle.merc_plan.specs.Branches.{Plan, node_branch}

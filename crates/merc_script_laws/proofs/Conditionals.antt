@@ -34,7 +34,7 @@ use Rattle.merc_program_laws.proofs.Calls.{LawfulCalls}
 use Rattle.merc_program_laws.proofs.Graded.{ends_zero}
 use Rattle.merc_program_laws.proofs.TreeCategories.{IsPart, node_law, outputs_within}
 use Rattle.merc_core.specs.Rights.{has}
-use Rattle.merc_par_split.specs.Rights.{Right, used_in, unused_in, bound_in, around}
+use Rattle.merc_rights.specs.Rights.{Right, used_in, unused_in, bound_in, around}
 use Rattle.merc_par_split.specs.Split.{nothing}
 use Rattle.merc_par_split.specs.Sites.{are_for}
 use Rattle.merc_plan.specs.Branch.{Hold, Gift, BranchCourse, choose as c_choose}

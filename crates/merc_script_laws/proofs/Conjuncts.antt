@@ -9,8 +9,8 @@ use Rattle.merc_meaning.specs.Trace.{Env}
 use Rattle.merc_meaning.specs.Steps.{value_at}
 use Rattle.merc_core.specs.Rights.{has}
 use Rattle.merc_core.specs.WellFormed.{AreDistinct}
-use Rattle.merc_par_split.specs.declared.sites.CellInfo.{CellInfo}
-use Rattle.merc_par_split.specs.Rights.{Right, right_to, used_in, users}
+use Rattle.merc_rights.specs.declared.sites.CellInfo.{CellInfo}
+use Rattle.merc_rights.specs.Rights.{Right, right_to, used_in, users}
 use Rattle.merc_par_split.specs.Sites.{count, are_for, consumers, cells_of}
 use Rattle.merc_plan.specs.Branch.{HeldSignal, Hold, NamedCell, Fork, Gift, gift_at, value_given}
 use Rattle.merc_plan.specs.Hold.{child_for, fork_of}

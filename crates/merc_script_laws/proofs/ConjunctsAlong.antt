@@ -29,7 +29,7 @@ use Rattle.merc_program_laws.proofs.TreeCategories.{node_law}
 use Rattle.merc_core.specs.Rights.{has}
 use Rattle.merc_core.specs.WellFormed.{AreDistinct}
 use Rattle.merc_par_split.specs.Forks.{forks}
-use Rattle.merc_par_split.specs.Rights.{Right, users}
+use Rattle.merc_rights.specs.Rights.{Right, users}
 use Rattle.merc_par_split.specs.Sites.{are_for, planned, planned_conjuncts}
 use Rattle.merc_par_split.specs.Split.{nothing, placed_conjuncts}
 use Rattle.merc_par_split.proofs.PlannedCounts.{planned_count}

@@ -20,10 +20,10 @@ use Rattle.merc_program_laws.proofs.Maxima.{then_zero}
 use Rattle.merc_core.specs.Rights.{has}
 use Rattle.merc_core.specs.WellFormed.{AreDistinct}
 use Rattle.merc_par_split.specs.Forks.{forks}
-use Rattle.merc_par_split.specs.Rights.{Right, users}
+use Rattle.merc_rights.specs.Rights.{Right, users}
 use Rattle.merc_par_split.specs.Sites.{are_for, planned, planned_conjuncts}
 use Rattle.merc_par_split.specs.Split.{nothing, placed_conjuncts}
-use Rattle.merc_par_split.specs.declared.sites.SiteInfo.{SiteInfo}
+use Rattle.merc_rights.specs.declared.sites.SiteInfo.{SiteInfo}
 use Rattle.merc_par_split.proofs.PlannedCounts.{planned_count}
 use Rattle.merc_plan.specs.Branch.{Hold, NamedCell, BranchCourse, Gift, gift_at, gives, all_give}
 use Rattle.merc_plan.specs.Hold.{child_for, conjunct_hold}

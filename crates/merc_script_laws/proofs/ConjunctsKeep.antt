@@ -24,10 +24,10 @@ use Rattle.merc_program_laws.proofs.Values.{Instance}
 use Rattle.merc_core.specs.Rights.{has}
 use Rattle.merc_core.specs.WellFormed.{AreDistinct}
 use Rattle.merc_par_split.specs.Forks.{forks}
-use Rattle.merc_par_split.specs.Rights.{Right, used_in, users}
+use Rattle.merc_rights.specs.Rights.{Right, used_in, users}
 use Rattle.merc_par_split.specs.Sites.{are_for, planned, planned_conjuncts}
 use Rattle.merc_par_split.specs.Split.{nothing, placed, placed_conjuncts}
-use Rattle.merc_par_split.specs.declared.sites.SiteInfo.{SiteInfo}
+use Rattle.merc_rights.specs.declared.sites.SiteInfo.{SiteInfo}
 use Rattle.merc_par_split.proofs.PlannedCounts.{planned_count}
 use Rattle.merc_plan.specs.Branch.{Hold, NamedCell, BranchCourse, BranchCourses, names, Gift, gift_at, gives}
 use Rattle.merc_plan.specs.Hold.{child_for, fork_of}

@@ -1,8 +1,9 @@
 -- What is asked of a fork: its conjuncts' courses, one after the other, are like the trace of its goals, from the values that the branch has there or is owed.
-use Rattle.std.proofs.Common.{◌≡◌, ◌⊎◌, inl, inr, ℕ, true, false, is_some, List, [], Option, Some, None, refl, ap, sym, subst, ◌∙◌}
+use Rattle.std.proofs.Common.{◌≡◌, ◌⊎◌, inl, inr, ℕ, suc, ◌+◌, true, false, is_some, List, [], ◌++◌, map, flat_map, Option, Some, None, refl, ap, sym, subst, ◌∙◌}
+use Rattle.std.proofs.Math.Path.{fun_ext}
 use Rattle.merc_tree.specs.declared.declarations.Module.{Module}
 use Rattle.merc_graded_tree.specs.declared.basic.Procedure.{Procedure}
-use Rattle.merc_graded_tree.specs.Nodes.{Nodes}
+use Rattle.merc_graded_tree.specs.Nodes.{Node, Nodes, no_nodes, more_nodes, outputs_of}
 use Rattle.merc_graded_tree.specs.Variables.{in_nodes}
 use Rattle.merc_order.specs.Bound.{Bound}
 use Rattle.merc_order.specs.Procedures.{modes_of}
@@ -11,16 +12,17 @@ use Rattle.merc_order_laws.specs.GoodTree.{GoodNodes}
 use Rattle.merc_order_laws.proofs.Facts.{clash, either_way}
 use Rattle.merc_grading.specs.Known.{Known}
 use Rattle.merc_value.specs.Value.{Value}
-use Rattle.merc_meaning.specs.Trace.{Env, Trace}
+use Rattle.merc_meaning.specs.Trace.{Env, Trace, each}
 use Rattle.merc_meaning.specs.Steps.{value_at}
-use Rattle.merc_meaning.specs.Runs.{Program, all_trace, call_trace}
+use Rattle.merc_meaning.specs.Runs.{Program, node_trace, all_trace, call_trace}
 use Rattle.merc_program_laws.proofs.Values.{Instance, none_not, is_some_of}
 use Rattle.merc_program_laws.proofs.Lawful.{Fits}
-use Rattle.merc_par_split.specs.declared.sites.SiteInfo.{SiteInfo}
-use Rattle.merc_par_split.specs.Rights.{Right}
+use Rattle.merc_rights.specs.declared.sites.SiteInfo.{SiteInfo}
+use Rattle.merc_par_split.specs.Forks.{forks}
+use Rattle.merc_rights.specs.Rights.{Right, right_to, used_in, signals_of}
 use Rattle.merc_par_split.specs.Sites.{are_for}
-use Rattle.merc_par_split.specs.Split.{placed_conjuncts}
-use Rattle.merc_par_split.proofs.SameTraces.{conjuncts_same}
+use Rattle.merc_par_split.specs.Split.{nothing, placed, placed_conjuncts}
+use Rattle.merc_par_split.proofs.SameTraces.{placed_same}
 use Rattle.merc_plan.specs.Branch.{Hold, BranchCourses}
 use Rattle.merc_plan.specs.Hold.{wait_for, fork_of}
 use Rattle.merc_plan.specs.EachFork.{value_owed, value_or, value_before}
@@ -33,6 +35,17 @@ use Rattle.merc_script_laws.proofs.Placed.{in_split_conjuncts}
 -- the traces of calls are those up to some depth
 abbrev pub AtDepth : Program → (Procedure → Env → Trace) → Type 0
 AtDepth program calls = (depth : ℕ) × (calls ≡ call_trace program depth)
+
+-- conjuncts with their waits and signals have the trace of the conjuncts
+conjuncts_traced : (program : Program) (calls : Procedure → Env → Trace) (ns : Nodes) (site number : ℕ) (outputs : List ℕ) (w s : List Right) (left : List ℕ) (env : Env)
+    → all_trace program calls (placed_conjuncts site number outputs w s left ns) env ≡ all_trace program calls ns env
+conjuncts_traced program calls no_nodes site number outputs w s left env = refl
+conjuncts_traced program calls (more_nodes n ns) site number outputs w s left env =
+    let waits : List Right = used_in n (map (right_to number) left ++ w) in
+    let signals : List Right = flat_map (signals_of (suc number) ns outputs s) (outputs_of n) in
+    let first : Node = placed site nothing waits signals n in
+    ap (λ (f : Env → Trace). each f (node_trace program calls first env)) (fun_ext (λ inner. conjuncts_traced program calls ns (site + forks n) (suc number) outputs w s (left ++ outputs_of n) inner))
+    ∙ ap (λ (t : Trace). each (λ inner. all_trace program calls ns inner) t) (placed_same program program calls (λ p arguments inner. refl) n site nothing waits signals env)
 
 is_none : {A : Type 0} (o : Option A) → ((a : A) → o ≡ Some a → ⊥) → o ≡ None
 is_none None h = refl
@@ -85,4 +98,4 @@ module _ (known : Module) (types i : Instance) (goals : Nodes) (out : Variables)
     same : all_trace program calls goals full ≡ all_trace program (call_trace program deep.0) (placed_conjuncts site 1 outputs v s [] goals) full
     same =
         ap (λ (c : Procedure → Env → Trace). all_trace program c goals full) deep.1
-        ∙ sym (conjuncts_same program program (call_trace program deep.0) (λ p arguments env. refl) goals site 1 outputs v s [] full)
+        ∙ sym (conjuncts_traced program (call_trace program deep.0) goals site 1 outputs v s [] full)

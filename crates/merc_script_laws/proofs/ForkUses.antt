@@ -28,7 +28,7 @@ use Rattle.merc_program_laws.proofs.Lawful.{Fits}
 use Rattle.merc_program_laws.proofs.Calls.{LawfulCalls}
 use Rattle.merc_core.specs.Rights.{has, moved, without}
 use Rattle.merc_core.specs.WellFormed.{AreDistinct}
-use Rattle.merc_par_split.specs.Rights.{Right, right_to, users}
+use Rattle.merc_rights.specs.Rights.{Right, right_to, users}
 use Rattle.merc_par_split.specs.Sites.{count, are_for, planned_conjuncts}
 use Rattle.merc_par_split.specs.Split.{moves_in, placed_conjuncts}
 use Rattle.merc_plan.specs.Branch.{HeldSignal, Hold, NamedCell, Fork, Forks, BranchCourse, BranchCourses, names, Gift, gift_at, gifts_through, value_given, all_give}

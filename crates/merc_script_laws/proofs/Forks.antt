@@ -34,8 +34,8 @@ use Rattle.merc_program_laws.proofs.Graded.{GradedAll}
 use Rattle.merc_program_laws.proofs.TreeCategories.{IsPart}
 use Rattle.merc_core.specs.Rights.{has}
 use Rattle.merc_core.specs.WellFormed.{AreDistinct}
-use Rattle.merc_par_split.specs.declared.sites.SiteInfo.{SiteInfo}
-use Rattle.merc_par_split.specs.Rights.{Right, right_to, those, wait_at, between}
+use Rattle.merc_rights.specs.declared.sites.SiteInfo.{SiteInfo}
+use Rattle.merc_rights.specs.Rights.{Right, right_to, those, wait_at, between}
 use Rattle.merc_par_split.specs.Sites.{are_for, site_info, planned_goal, planned_conjuncts}
 use Rattle.merc_par_split.specs.Split.{moves_in, placed_goal, placed_conjuncts}
 use Rattle.merc_plan.specs.Branch.{HeldSignal, Hold, Fork, BranchCourse, BranchCourses, Over, Finds, Forks, Gift, each}

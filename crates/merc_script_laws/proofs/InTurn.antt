@@ -37,7 +37,7 @@ use Rattle.merc_program_laws.proofs.Maxima.{then_sure, then_zero, then_is_zero}
 use Rattle.merc_program_laws.proofs.Graded.{GradedAll}
 use Rattle.merc_program_laws.proofs.TreeCategories.{IsPart, node_law, outputs_within, not_in}
 use Rattle.merc_core.specs.Rights.{has}
-use Rattle.merc_par_split.specs.Rights.{Right, used_in, unused_in, bound_in, unbound_in}
+use Rattle.merc_rights.specs.Rights.{Right, used_in, unused_in, bound_in, unbound_in}
 use Rattle.merc_par_split.specs.Forks.{forks}
 use Rattle.merc_par_split.specs.Split.{placed, placed_in_turn}
 use Rattle.merc_par_split.specs.Sites.{are_for, planned, planned_in_turn}

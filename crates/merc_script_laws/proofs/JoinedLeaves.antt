@@ -25,7 +25,7 @@ use Rattle.merc_program_laws.proofs.Lawful.{Fits}
 use Rattle.merc_program_laws.proofs.Calls.{LawfulCalls}
 use Rattle.merc_program_laws.proofs.Graded.{GradedEach, ends_zero}
 use Rattle.merc_program_laws.proofs.TreeCategories.{IsPart, node_law}
-use Rattle.merc_par_split.specs.Rights.{Right}
+use Rattle.merc_rights.specs.Rights.{Right}
 use Rattle.merc_par_split.specs.Split.{nothing}
 use Rattle.merc_plan.specs.Branch.{Hold, BranchCourse, after as c_after, negated as c_negated}
 use Rattle.merc_plan.specs.Branches.{Plan, node_branch, any_branch}

@@ -17,9 +17,9 @@ use Rattle.merc_meaning.specs.Trace.{Env, Trace}
 use Rattle.merc_meaning.specs.Runs.{Program, answers_once, goal_trace, node_trace}
 use Rattle.merc_program_laws.proofs.Values.{Instance}
 use Rattle.merc_program_laws.proofs.Lawful.{Fits}
-use Rattle.merc_par_split.specs.Rights.{Right, around}
+use Rattle.merc_rights.specs.Rights.{Right, around}
 use Rattle.merc_par_split.specs.Split.{may_fail}
-use Rattle.merc_par_split.specs.declared.sites.SiteInfo.{SiteInfo}
+use Rattle.merc_rights.specs.declared.sites.SiteInfo.{SiteInfo}
 use Rattle.merc_plan.specs.Branch.{Hold, BranchCourse}
 use Rattle.merc_plan.specs.Branches.{Plan, node_branch}
 use Rattle.merc_plan.proofs.Flat.{Flat, Like, once_if, events}

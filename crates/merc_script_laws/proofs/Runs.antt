@@ -16,7 +16,7 @@ use Rattle.merc_meaning.specs.Runs.{Program, answers_once, once_if as t_once, go
 use Rattle.merc_program_laws.specs.GoodPrograms.{AreGoodTypes}
 use Rattle.merc_program_laws.proofs.Values.{Instance}
 use Rattle.merc_program_laws.proofs.Calls.{LawfulCalls}
-use Rattle.merc_par_split.specs.Rights.{Right, around}
+use Rattle.merc_rights.specs.Rights.{Right, around}
 use Rattle.merc_par_split.specs.Split.{nothing}
 use Rattle.merc_plan.specs.Branch.{Hold, BranchCourse}
 use Rattle.merc_plan.specs.Branches.{Plan, node_branch}

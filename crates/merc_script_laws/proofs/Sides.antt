@@ -16,7 +16,7 @@ use Rattle.merc_meaning.specs.Runs.{Program, answers_once}
 use Rattle.merc_program_laws.proofs.Values.{Instance}
 use Rattle.merc_core.specs.Rights.{has}
 use Rattle.merc_core.specs.WellFormed.{AreDistinct}
-use Rattle.merc_par_split.specs.Rights.{Right, those, signal_at, around}
+use Rattle.merc_rights.specs.Rights.{Right, those, signal_at, around}
 use Rattle.merc_par_split.specs.Sites.{are_for}
 use Rattle.merc_plan.specs.Branch.{HeldSignal, Hold, Fork, Gift, gift_at, BranchCourse, BranchCourses}
 use Rattle.merc_plan.specs.Branches.{Plan, once_if as c_once, node_branch}

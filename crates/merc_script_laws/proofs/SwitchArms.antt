@@ -38,7 +38,7 @@ use Rattle.merc_program_laws.proofs.Maxima.{zero_is, sure_is, fails_or, greater_
 use Rattle.merc_program_laws.proofs.Graded.{GradedArms, ends_zero}
 use Rattle.merc_program_laws.proofs.TreeCategories.{IsPart}
 use Rattle.merc_core.specs.Rights.{has}
-use Rattle.merc_par_split.specs.Rights.{Right, used_in, bound_in}
+use Rattle.merc_rights.specs.Rights.{Right, used_in, bound_in}
 use Rattle.merc_par_split.specs.Forks.{forks}
 use Rattle.merc_par_split.specs.Split.{placed, placed_arms}
 use Rattle.merc_par_split.specs.Sites.{are_for, planned, planned_arms}

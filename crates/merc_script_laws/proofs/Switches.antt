@@ -26,7 +26,7 @@ use Rattle.merc_program_laws.proofs.Lawful.{Fits}
 use Rattle.merc_program_laws.proofs.Calls.{LawfulCalls}
 use Rattle.merc_program_laws.proofs.Maxima.{zero_is, sure_is, fails_or}
 use Rattle.merc_core.specs.Rights.{has}
-use Rattle.merc_par_split.specs.Rights.{Right, those, around}
+use Rattle.merc_rights.specs.Rights.{Right, those, around}
 use Rattle.merc_par_split.specs.Sites.{are_for}
 use Rattle.merc_plan.specs.Branch.{Hold, Gift, BranchCourse}
 use Rattle.merc_plan.specs.Branches.{Plan, once_if as c_once, node_branch, arms_branch}

@@ -21,7 +21,7 @@ use Rattle.merc_program_laws.specs.GoodPrograms.{AreGoodTypes}
 use Rattle.merc_program_laws.proofs.Values.{Instance, or_false}
 use Rattle.merc_program_laws.proofs.Calls.{LawfulCalls}
 use Rattle.merc_program_laws.proofs.Maxima.{capped_fail, capped_zero, capped_is_zero}
-use Rattle.merc_par_split.specs.Rights.{Right}
+use Rattle.merc_rights.specs.Rights.{Right}
 use Rattle.merc_plan.specs.Branch.{Hold, Gift, BranchCourse}
 use Rattle.merc_plan.specs.Branches.{Plan, node_branch, all_branch}
 use Rattle.merc_plan.proofs.Flat.{events}

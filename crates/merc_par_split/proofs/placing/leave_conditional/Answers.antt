@@ -1,7 +1,7 @@
 use Rattle.std.proofs.Common.{◌∙◌, ◌∷◌, [], ap, length}
 use Rattle.merc_graded_tree.specs.Labels.{labels_of}
 use Rattle.merc_graded_tree.specs.Variables.{in_node}
-use Rattle.merc_par_split.specs.Outcomes.{rights_of, those_waits, others}
+use Rattle.merc_rights.specs.Waits.{rights_of, those_waits, others}
 use Rattle.merc_par_split.proofs.Leaving.{ok_weaker, lie_past, conditional_left}
 use Rattle.merc_par_split.proofs.placing.leave_conditional.Goals as goal
 

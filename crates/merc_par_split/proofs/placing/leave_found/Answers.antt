@@ -1,5 +1,5 @@
 use Rattle.std.proofs.Common.{[], ap, refl}
-use Rattle.merc_par_split.specs.Rows.{row_of}
+use Rattle.merc_rights.specs.Rows.{row_of}
 use Rattle.merc_par_split.proofs.Leaving.{ok_weaker, members_left}
 use Rattle.merc_par_split.proofs.placing.leave_found.Goals as goal
 

@@ -1,0 +1,12 @@
+pub mod Rights
+pub mod RightsExamples
+pub mod Ranks
+pub mod Rows
+pub mod Uses
+pub mod RowsExamples
+pub mod Waits
+pub mod WaitsExamples
+pub mod Places
+pub mod PlacesExamples
+pub mod Members
+pub mod MembersExamples
