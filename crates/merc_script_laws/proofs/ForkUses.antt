@@ -81,11 +81,11 @@ module _ (known : Module) (types i : Instance) (declared : AreGoodTypes known.ty
     abbrev branches : BranchCourses
     branches = kids known types i declared program calls plan split course goals outputs w s out b seen here hold distinct free fit ready names_are single fine goes counts (suc at) 1 [] goals []
 
-    abbrev given : List Gift
-    given = conjunct_gifts plan split course (info goals outputs w s hold) hold 1 conjuncts []
-
     abbrev conjuncts : Nodes
     conjuncts = placed_conjuncts (suc at) 1 outputs w s [] goals
+
+    abbrev given : List Gift
+    given = conjunct_gifts plan split course (info goals outputs w s hold) hold 1 conjuncts []
 
     abbrev here_fork : Fork
     here_fork = fork_of (info goals outputs w s hold) conjuncts hold

@@ -1,5 +1,5 @@
 -- Worked examples of the script of a goal and of the scripts of its conjuncts: `X = 1 & Y = X`, of which Y is used behind it.
-use Rattle.std.specs.Prelude.{◌≡◌, ℕ, pos, [], ◌∷◌, Some, None, refl}
+use Rattle.std.specs.Prelude.{◌≡◌, pos, true, [], ◌∷◌, Some, None, refl}
 use Rattle.merc_base.specs.declared.category.Category.TheVariants.{Det}
 use Rattle.merc_base.specs.declared.place.Span.{Span}
 use Rattle.merc_goal_tree.specs.declared.goal.Symbol.TheVariants.{Integer}
