@@ -1,5 +1,5 @@
 -- What is asked of a fork: its conjuncts' courses, one after the other, are like the trace of its goals, from the values that the branch has there or is owed.
-use Rattle.std.proofs.Common.{◌≡◌, ◌⊎◌, inl, inr, ℕ, suc, ◌+◌, true, false, is_some, List, [], ◌++◌, map, flat_map, Option, Some, None, refl, ap, sym, subst, ◌∙◌}
+use Rattle.std.proofs.Common.{◌≡◌, ◌⊎◌, inl, inr, ℕ, suc, ◌+◌, true, false, List, [], ◌++◌, map, flat_map, Option, Some, None, refl, ap, sym, subst, ◌∙◌}
 use Rattle.std.proofs.Math.Path.{fun_ext}
 use Rattle.merc_tree.specs.declared.declarations.Module.{Module}
 use Rattle.merc_graded_tree.specs.declared.basic.Procedure.{Procedure}

@@ -11,7 +11,7 @@ use Rattle.merc_meaning.specs.Runs.{Program, run}
 use Rattle.merc_meaning.specs.Programs.{program_with}
 use Rattle.merc_script.specs.declared.outcome.Outcome.TheVariants.{Ok as Fine}
 use Rattle.merc_script.specs.Script.{Ends, TickThen, WaitThen, SignalThen, ForkThen, NoChild, Child, end_of}
-use Rattle.merc_plan.specs.Branch.{Fork, BranchCourse}
+use Rattle.merc_plan.specs.Branch.{Fork}
 use Rattle.merc_plan.specs.Hold.{holding}
 use Rattle.merc_plan.specs.Branches.{first_name, root_branch}
 use Rattle.merc_plan.specs.BranchScript.{shown_by}
