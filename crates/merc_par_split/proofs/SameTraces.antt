@@ -190,7 +190,7 @@ module _ (program other : Program) (call : Procedure → Env → Trace) (calls :
         (new (placed site here (used_in first waits) (bound_in first signals) first) env)
         ∙ ap (each (λ inner. all_trace program call rest inner)) (placed_same first site here (used_in first waits) (bound_in first signals) env)
 
-    conjuncts_same : (goals : Nodes) (site number : ℕ) (outputs : List ℕ) (waits signals : List Right) (left : List ℕ) (env : Env)
+    pub conjuncts_same : (goals : Nodes) (site number : ℕ) (outputs : List ℕ) (waits signals : List Right) (left : List ℕ) (env : Env)
         → all (placed_conjuncts site number outputs waits signals left goals) env ≡ all_trace program call goals env
     conjuncts_same no_nodes site number outputs waits signals left env = refl
     conjuncts_same (more_nodes first rest) site number outputs waits signals left env =

@@ -218,7 +218,7 @@ module _ (modes : ℕ → List ModeDecl) where
               (in_split_turn ns (with out (in_node n)) (with b (among (outputs_of n))) good.1 (site + forks n) later (unused_in n w) (unbound_in n s) x k)
         ]
 
-    in_split_conjuncts : (ns : Nodes) (out : Variables) (b : Bound) → GoodNodes modes out b ns → (site number : ℕ) (outputs : List ℕ) (w s : List Right) (left : List ℕ) (x : ℕ)
+    pub in_split_conjuncts : (ns : Nodes) (out : Variables) (b : Bound) → GoodNodes modes out b ns → (site number : ℕ) (outputs : List ℕ) (w s : List Right) (left : List ℕ) (x : ℕ)
         → in_nodes (placed_conjuncts site number outputs w s left ns) x ≡ true → in_nodes ns x ≡ true
     in_split_conjuncts no_nodes out b good site number outputs w s left x h = h
     in_split_conjuncts (more_nodes n ns) out b good site number outputs w s left x h =

@@ -1,46 +1,23 @@
 -- What holds of the scripts of accepted goals.
-use Rattle.std.specs.Prelude.{◌≡◌, ℕ, suc, ◌≤◌, true, is_some, List, [], ◌∷◌, ◌++◌, length, Option, Some}
-use Rattle.merc_base.specs.declared.category.Category.{Category}
-use Rattle.merc_base.specs.declared.place.Span.{Span}
+use Rattle.std.specs.Prelude.{◌≡◌, ℕ, suc, ◌≤◌, true, List, [], ◌∷◌, ◌++◌, length}
 use Rattle.merc_tree.specs.Term.{Term}
-use Rattle.merc_tree.specs.Types.{TypeExpr, replaced}
 use Rattle.merc_tree.specs.declared.declarations.PredDecl.{PredDecl}
 use Rattle.merc_tree.specs.declared.declarations.Module.{Module}
-use Rattle.merc_goal_tree.specs.declared.goal.Symbol.{Symbol}
-use Rattle.merc_graded_tree.specs.declared.entries.Running.TheVariants.{Parallel}
-use Rattle.merc_graded_tree.specs.declared.basic.Site.{Site}
-use Rattle.merc_graded_tree.specs.Nodes.{Node, node, Conjunction, Nodes}
-use Rattle.merc_graded_tree.specs.Variables.{in_node}
-use Rattle.merc_order.specs.Bound.{Bound}
-use Rattle.merc_order.specs.Procedures.{modes_of}
-use Rattle.merc_grading.specs.Known.{Known, known_of}
-use Rattle.merc_grading.specs.Grading.{graded}
-use Rattle.merc_order_laws.specs.Bindings.{Variables}
-use Rattle.merc_order_laws.specs.GoodTree.{GoodNode}
-use Rattle.merc_order_laws.specs.TypedTree.{IsTypedTree}
-use Rattle.merc_value.specs.Value.{Value, Values}
-use Rattle.merc_meaning.specs.Trace.{Env, cut}
-use Rattle.merc_meaning.specs.Values.{fields}
-use Rattle.merc_meaning.specs.Steps.{value_at}
-use Rattle.merc_meaning.specs.Runs.{Program, all_trace, call_trace, run}
+use Rattle.merc_graded_tree.specs.Nodes.{Node}
+use Rattle.merc_meaning.specs.Runs.{Program, run}
 use Rattle.merc_meaning.specs.Programs.{program_with}
 use Rattle.merc_check.specs.Checked.{IsGoal}
 use Rattle.merc_program_laws.specs.AcceptedLaws.{IsChecked, IsGradedGoal}
-use Rattle.merc_program_laws.specs.GoodPrograms.{HasLiterals}
-use Rattle.merc_program_laws.specs.ValueTypes.{HasType}
-use Rattle.merc_script.specs.Script.{Script, end_of, ends}
-use Rattle.merc_script.specs.Joining.{joined}
+use Rattle.merc_script.specs.Script.{Script, end_of}
 use Rattle.merc_core.specs.WellFormed.{WellFormed, most_steps, cells_of, value_in}
 use Rattle.merc_course.specs.Courses.{course}
-use Rattle.merc_par_split.specs.Split.{split, all_split, placed_conjuncts}
-use Rattle.merc_par_split.specs.Sites.{all_sites, site_info}
-use Rattle.merc_plan.specs.Branch.{BranchCourse, BranchCourses}
-use Rattle.merc_plan.specs.Hold.{holding}
-use Rattle.merc_plan.specs.Branches.{Plan, call_branch, conjunct_branches, first_name, node_branch}
-use Rattle.merc_plan.specs.BranchScript.{no_numbers, numbered, root_script, script, scripts, shown_by}
+use Rattle.merc_par_split.specs.Split.{split, all_split}
+use Rattle.merc_par_split.specs.Sites.{all_sites}
+use Rattle.merc_plan.specs.Branches.{Plan, root_branch}
+use Rattle.merc_plan.specs.BranchScript.{root_script, shown_by}
+use Rattle.merc_plan.specs.EachFork.{EachFork, JoinShows}
 use Rattle.merc_plan.specs.PlanLists.{plan_of}
 use Rattle.merc_plan.specs.Stands.{Stands}
-use Rattle.merc_script_laws.specs.Parallel.{IsParallelTree}
 
 -- The split trees of procedures, and of a goal that is asked behind them, with the plan of all their sites.
 
