@@ -3,7 +3,7 @@ ghost use Rattle.std.specs.Prelude.{◌≡◌, ◌++◌, List, [], ◌∷◌, le
 ghost use Rattle.merc_graded_tree.specs.declared.entries.Root.TheVariants.{Basic as BasicRoot, Disjunction as DisjunctionRoot, Negation as NegationRoot, Quantified};
 ghost use Rattle.merc_graded_tree.specs.Labels.{all_labels, arm_labels, labels_of};
 ghost use Rattle.merc_graded_tree.specs.Roots.{arms_of};
-ghost use Rattle.merc_graded_tree.specs.Nodes.{Node};
+ghost use Rattle.merc_graded_tree.specs.Nodes.{Node, outputs_of, span_of};
 ghost use Rattle.merc_par_split.specs.Constructs.{arm_tasks, conditional_tasks, site_tasks, switch_tasks, turn_tasks, whole_tasks, LeavesConjuncts, LeavesRunning};
 ghost use Rattle.merc_rights.specs.Rights.{right_to};
 ghost use Rattle.merc_par_split.specs.Split.{may_fail};
@@ -12,7 +12,7 @@ ghost use Rattle.merc_rights.specs.Places.{starts_of, Lies};
 ghost use Rattle.merc_par_split.specs.declared.tasks.Task.{Task};
 
 use crate::members::leave_members;
-use crate::tasks::{Placing, Task, Tasks, leave_wrap, relabelled};
+use crate::tasks::{Placing, Task, Tasks, leave_around, leave_close, leave_wrap, relabelled};
 use merc_base::{Category, NoMemory, Sequence};
 use merc_goal_tree::{Symbol, Var, Vars};
 use merc_graded_tree::{BasicGoal, NodeRef, NodeView, Parts, Root, Running, Site};
@@ -230,9 +230,9 @@ fn leave_closed<'a>(
 ) -> Result<(), NoMemory>
     ensures { OnOk result (tasks.new ≡ closed goal.now root before behind.entry count ++ tasks.old) }
 {
-    leave_wrap(alloc, goal, sum(before, count)?, tasks)?;
+    leave_around(alloc, goal, before, count, tasks)?;
     tasks.push(behind)?;
-    tasks.push(Task::Close(relabelled(alloc, goal, root)?))
+    leave_close(alloc, goal, root, tasks)
 }
 
 // Leaves a goal with all rights around it. The goals that it joins have none.
@@ -455,9 +455,22 @@ fn leave_site<'a>(
     ensures { OnOk result (tasks.new ≡ site_tasks goal.now children number before ++ tasks.old) }
 {
     let outputs = goal.outputs().as_slice();
+    leave_around(alloc, goal, before, outputs.len(), tasks)?;
+    leave_outputs(alloc, goal, tasks)?;
     let root = Root::Conjunction(Running::Parallel(Some(Site { number })), children);
-    let behind = Task::Waits(parent_waits(alloc, outputs)?, goal.span());
-    leave_closed(alloc, goal, root, before, behind, outputs.len(), tasks)
+    leave_close(alloc, goal, root, tasks)
+}
+
+// Leaves the parent's waits for the outputs.
+fn leave_outputs<'a>(
+    alloc: Global,
+    goal: &NodeRef<'a>,
+    tasks: &mut Tasks<'a>,
+) -> Result<(), NoMemory>
+    ensures { OnOk result (tasks.new ≡ Task.Waits (map (right_to 0) (outputs_of goal.now)) (span_of goal.now) ∷ tasks.old) }
+{
+    let waits = parent_waits(alloc, goal.outputs().as_slice())?;
+    tasks.push(Task::Waits(waits, goal.span()))
 }
 
 // The parent's waits for the outputs.

@@ -1,12 +1,13 @@
 //! The split trees of goals.
-ghost use Rattle.std.specs.Prelude.{◌≡◌, [], ◌∷◌, ◌++◌, length, map, OnOk};
+ghost use Rattle.std.specs.Prelude.{◌≡◌, [], ◌∷◌, ◌++◌, length, map, IfOk, OnOk};
 ghost use Rattle.std.specs.Prelude.{Some};
 ghost use Rattle.merc_graded_tree.specs.Nodes.{node, Basic};
 ghost use Rattle.merc_base.specs.declared.category.Category.{Category};
 ghost use Rattle.merc_rights.specs.Rights.{signal_at, wait_at};
 ghost use Rattle.merc_par_split.specs.Sites.{sites as planned_sites};
 ghost use Rattle.merc_par_split.specs.Split.{split};
-ghost use Rattle.merc_par_split.specs.Tasks.{HaveEnough, LiesTask, Performs};
+ghost use Rattle.merc_par_split.specs.Tasks.{after_all, AllLie, HaveEnough, LiesTask, Performs};
+ghost use Rattle.merc_par_split.specs.declared.tasks.Task.{Task};
 
 use crate::placing::{enter, place, without_rights};
 use crate::tasks::{Task, Tasks};
@@ -35,10 +36,33 @@ pub fn split(
     ensures sites { OnOk result (sites.new.items ≡ sites.old.items ++ planned_sites goal.now) }
 {
     let occurrences = Occurrences::of(alloc, goal)?;
+    let mut tasks = first_tasks(alloc, goal)?;
+    perform_all(alloc, &occurrences, &mut tasks, nodes, sites)
+}
+
+// What is to be done for a goal that is in no conjunct.
+fn first_tasks<'a>(alloc: Global, goal: &NodeRef<'a>) -> Result<Tasks<'a>, NoMemory>
+    ensures { IfOk result (λ tasks. tasks ≡ Task.Place (record { goal = goal.now; first = 0; waits = []; signals = [] }) ∷ []) }
+{
     let mut tasks = Tasks::new(alloc);
     tasks.push(without_rights(alloc, goal.copy(), 0))?;
+    Ok(tasks)
+}
+
+// Does all tasks.
+fn perform_all<'a>(
+    alloc: Global,
+    occurrences: &Occurrences<'_>,
+    tasks: &mut Tasks<'a>,
+    nodes: &mut Nodes,
+    sites: &mut Vec<SiteInfo>,
+) -> Result<(), NoMemory>
+    requires lie { AllLie occurrences.now tasks.old }
+    requires enough { HaveEnough (length nodes.old) tasks.old }
+    ensures { OnOk result (after_all tasks.old (record { goals = nodes.old; sites = sites.old.items }) ≡ record { goals = nodes.new; sites = sites.new.items }) }
+{
     while let Some(task) = tasks.pop() {
-        perform(alloc, &occurrences, task, &mut tasks, nodes, sites)?;
+        perform(alloc, occurrences, task, tasks, nodes, sites)?;
     }
     Ok(())
 }
