@@ -17,7 +17,7 @@ use Rattle.merc_rights.specs.declared.conjuncts.Found.{Found}
 use Rattle.merc_rights.specs.declared.rights.Awaited.{Awaited}
 use Rattle.merc_rights.specs.declared.sites.CellInfo.{CellInfo}
 use Rattle.merc_rights.specs.declared.sites.Moved.{Moved}
-use Rattle.merc_rights.proofs.Indexes.{next_is, flat_more, each-push}
+use Rattle.merc_rights.proofs.Indexes.{next_is, flat_more, map_more, each-push}
 
 -- the rights to those who wait are in order
 
@@ -139,19 +139,20 @@ module _ (goals : List Node) (list : List ℕ) (moved : List (ℕ × Right)) (pr
 one_more : {X : Type 0} (items : List X) (index : ℕ) (item : X) → item ≡ slice_index_or items index item → index < length items → take (index + 1) items ≡ take index items ++ item ∷ []
 one_more items index item is less = take_more items index item less ∙ ap (λ x. take index items ++ x ∷ []) (sym is)
 
-pub waits_more : {X : Type 0} (items : List X) (index : ℕ) (item : X) (start old new : List X) → item ≡ slice_index_or items index item → index < length items
+waits_more : {X : Type 0} (items : List X) (index : ℕ) (item : X) (start old new : List X) → item ≡ slice_index_or items index item → index < length items
     → old ≡ start ++ take index items → new ≡ old ++ item ∷ [] → new ≡ start ++ take (index + 1) items
 waits_more items index item start old new is less so put =
     put ∙ ap (λ l. l ++ item ∷ []) so ∙ append_assoc start (take index items) (item ∷ []) ∙ ap (λ l. start ++ l) (sym (one_more items index item is less))
 
-pub moves_more : (items : List (ℕ × Awaited)) (index : ℕ) (item : ℕ × Awaited) (child : ℕ) (start old new : List Moved) → item ≡ slice_index_or items index item → index < length items
-    → child ≡ item.0 + 1 → old ≡ start ++ map move_of (take index items) → new ≡ old ++ record { variable = item.1.right.variable; child = child; signal = false } ∷ []
-    → new ≡ start ++ map move_of (take (index + 1) items)
-moves_more items index item child start old new is less next so put =
-    let e : child ≡ suc item.0 = omega (arith, next) in
-    put ∙ ap (λ n. old ++ record { variable = item.1.right.variable; child = n; signal = false } ∷ []) e
-    ∙ ap (λ l. l ++ move_of item ∷ []) so ∙ append_assoc start (map move_of (take index items)) (move_of item ∷ [])
-    ∙ ap (λ l. start ++ l) (sym (map-append move_of (take index items) (item ∷ [])) ∙ ap (map move_of) (sym (one_more items index item is less)))
+pub moved_more : (items : List (ℕ × Awaited)) (index : ℕ) (item : ℕ × Awaited) (start old new : Found) → item ≡ slice_index_or items index item → index < length items
+    → Adds start old [] (map move_of (take index items)) (take index items) [] → Adds old new [] (move_of item ∷ []) (item ∷ []) []
+    → Adds start new [] (map move_of (take (index + 1) items)) (take (index + 1) items) []
+moved_more items index item start old new is less so put = record {
+  more_cells = put.more_cells ∙ append-nil old.cells.items ∙ so.more_cells;
+  more_moves = map_more move_of items index item start.moves.items old.moves.items new.moves.items is less so.more_moves put.more_moves;
+  more_waits = waits_more items index item start.waits.items old.waits.items new.waits.items is less so.more_waits put.more_waits;
+  more_signals = put.more_signals ∙ append-nil old.signals.items ∙ so.more_signals;
+}
 
 pub all_moved : (items all : List (ℕ × Awaited)) (index : ℕ) (start old : Found) → items ≡ all → length items ≤ index → Adds start old [] (map move_of (take index items)) (take index items) []
     → Adds start old [] (map move_of all) all []

@@ -267,13 +267,21 @@ pub fn put_moved(
     let mut pairs = Vec::new(alloc);
     put_shares(alloc, occurrences, members, inside, &mut pairs)?;
     for pair in &pairs {
-        let child = sum(pair.0, 1)?;
-        found.moves.push(Moved {
-            variable: pair.1.right.variable,
-            child,
-            signal: false,
-        })?;
-        found.waits.push(*pair)?;
+        put_moved_in(pair, found)?;
     }
+    Ok(())
+}
+
+// Puts a right to wait that moves into the conjunct of a number.
+fn put_moved_in(pair: &(usize, Awaited), found: &mut Found) -> Result<(), NoMemory>
+    ensures { OnOk result (Adds found.old found.new [] (move_of pair.now ∷ []) (pair.now ∷ []) []) }
+{
+    let child = sum(pair.0, 1)?;
+    found.moves.push(Moved {
+        variable: pair.1.right.variable,
+        child,
+        signal: false,
+    })?;
+    found.waits.push(*pair)?;
     Ok(())
 }

@@ -161,24 +161,58 @@ fn put_basic(
         BasicGoal::True | BasicGoal::Fail => Ok(()),
         BasicGoal::Assign(one, other)
         | BasicGoal::Test(one, other)
-        | BasicGoal::Compare(_, one, other) => {
-            put(*one, index, pairs)?;
-            put(*other, index, pairs)
-        }
+        | BasicGoal::Compare(_, one, other) => put_two(*one, *other, index, pairs),
         BasicGoal::Build(whole, _, arguments) | BasicGoal::Split(whole, _, arguments) => {
-            put(*whole, index, pairs)?;
-            put_all(arguments.as_slice(), index, pairs)
+            put_with_all(*whole, arguments.as_slice(), index, pairs)
         }
         BasicGoal::Arithmetic(_, result, left, right) => {
-            put(*result, index, pairs)?;
-            put(*left, index, pairs)?;
-            put(*right, index, pairs)
+            put_three(*result, *left, *right, index, pairs)
         }
         BasicGoal::Raise(variable)
         | BasicGoal::Wait(variable, _)
         | BasicGoal::Signal(variable, _) => put(*variable, index, pairs),
         BasicGoal::Call(_, arguments) => put_all(arguments.as_slice(), index, pairs),
     }
+}
+
+// Puts two variables with a number behind the others.
+fn put_two(
+    one: Var,
+    other: Var,
+    number: usize,
+    pairs: &mut Vec<(usize, usize)>,
+) -> Result<(), NoMemory>
+    ensures { OnOk result (pairs.new.items ≡ pairs.old.items ++ (one, number) ∷ (other, number) ∷ []) }
+{
+    put(one, number, pairs)?;
+    put(other, number, pairs)
+}
+
+// Puts three variables with a number behind the others.
+fn put_three(
+    one: Var,
+    other: Var,
+    last: Var,
+    number: usize,
+    pairs: &mut Vec<(usize, usize)>,
+) -> Result<(), NoMemory>
+    ensures { OnOk result (pairs.new.items ≡ pairs.old.items ++ (one, number) ∷ (other, number) ∷ (last, number) ∷ []) }
+{
+    put(one, number, pairs)?;
+    put_two(other, last, number, pairs)
+}
+
+// Puts a variable and then others, all with a number, behind the others.
+fn put_with_all(
+    first: Var,
+    rest: &[Var],
+    number: usize,
+    pairs: &mut Vec<(usize, usize)>,
+) -> Result<(), NoMemory>
+    ensures { OnOk result (pairs.new.items ≡ pairs.old.items ++ (first, number) ∷ map (λ variable. (variable, number)) rest.now) }
+{
+    put(first, number, pairs)?;
+    put_all(rest, number, pairs)
 }
 
 /// Puts variables, each with a number, behind the others.
