@@ -1,12 +1,13 @@
 -- Tasks that are left for the goals which a goal joins.
-use Rattle.std.specs.Prelude.{◌≡◌, ◌+◌, ℕ, suc, List, [], ◌∷◌, ◌++◌, length, map, take, slice_index_or, Result, Ok, Err, OnOk, refl}
+use Rattle.std.specs.Prelude.{◌≡◌, ◌==◌, ◌+◌, ℕ, suc, List, [], ◌∷◌, ◌++◌, length, map, take, slice_index_or, Result, Ok, Err, OnOk, refl}
 use Rattle.std.specs.List.{filter, flat_map}
 use Rattle.std.proofs.Common.{◌∙◌, ap, sym, subst, arith}
 use Rattle.std.proofs.Math.Seq.{take-append_seam}
 use Rattle.std.proofs.lemmas.List.{append_assoc, append-nil, length-append}
 use Rattle.merc_base.specs.declared.place.Span.{Span}
+use Rattle.merc_goal_tree.specs.declared.goal.Symbol.{Symbol}
 use Rattle.merc_graded_tree.specs.declared.entries.Label.{Label}
-use Rattle.merc_graded_tree.specs.declared.entries.Root.TheVariants.{Conjunction, Conditional}
+use Rattle.merc_graded_tree.specs.declared.entries.Root.TheVariants.{Conjunction, Conditional, Switch}
 use Rattle.merc_graded_tree.specs.declared.entries.Running.TheVariants.{Sequential}
 use Rattle.merc_graded_tree.specs.Nodes.{Node, outputs_of, span_of, nodes_of}
 use Rattle.merc_graded_tree.specs.Labels.{labels_of, all_labels}
@@ -15,7 +16,7 @@ use Rattle.merc_rights.specs.Rights.{Right}
 use Rattle.merc_rights.specs.Rows.{row_of}
 use Rattle.merc_rights.specs.Members.{turn_wait, turn_signal, wait_shares, signal_shares, pass_shares, move_of, Finds, Adds}
 use Rattle.merc_rights.specs.Waits.{rights_of, those_waits, others, moves, stays}
-use Rattle.merc_par_split.specs.Constructs.{turn_tasks, arm_tasks, conditional_tasks, site_tasks, LeavesConjuncts}
+use Rattle.merc_par_split.specs.Constructs.{turn_tasks, arm_tasks, switch_tasks, conditional_tasks, site_tasks, LeavesConjuncts}
 use Rattle.merc_par_split.specs.Tasks.{Share, shares_of, relabelled, passing, member_tasks, closed}
 use Rattle.merc_rights.specs.Places.{Lies, starts_of}
 use Rattle.merc_rights.specs.declared.conjuncts.Found.{Found}
@@ -25,6 +26,7 @@ use Rattle.merc_par_split.specs.declared.tasks.Placing.{Placing}
 use Rattle.merc_par_split.specs.declared.tasks.Task.{Task}
 use Rattle.merc_par_split.specs.declared.tasks.Task.TheVariants.{Place, Waits, Signals, Close}
 use Rattle.merc_rights.proofs.MemberLaws.{all_labels-append, start_at}
+use Rattle.merc_rights.specs.Groups.{numbered}
 
 pub ok_weaker : {X Y : Type 0} (result : Result X Y) (P Q : Type 0) → (P → Q) → OnOk result P → OnOk result Q
 ok_weaker (Ok x) P Q f holds = f holds
@@ -167,30 +169,50 @@ conditional_left placing condition then_part else_part past size count before no
     ∙ ap (λ t. Waits own (span_of placing.goal) ∷ t) (e3 ∙ ap (λ t. t ∷ t2) q
     ∙ ap (λ t. placed condition placing.first [] [] ∷ t) (e2 ∙ ap (λ l. l ++ t1) arms_are ∙ ap (λ l. inner ++ l) ends ∙ sym (append_assoc inner end tasks)))
 
+pub switch_left : (placing : Placing) (variable : ℕ) (symbols copied : List Symbol) (goals listed : List Node) (count : ℕ) (before none : List Right) (inside : List Awaited) (at at' : Span) (tasks t1 t2 now : List Task)
+    → listed ≡ goals → copied ≡ symbols → before ≡ rights_of (those_waits (λ other. other == variable) placing.waits) → inside ≡ those_waits (others (λ other. other == variable)) placing.waits
+    → none ≡ [] → count ≡ length before → at ≡ span_of placing.goal → at' ≡ span_of placing.goal
+    → t1 ≡ closed placing.goal (Switch variable copied) count (Signals none at) 0 ++ tasks → t2 ≡ arm_tasks listed placing.first inside placing.signals ++ t1 → now ≡ Waits before at' ∷ t2
+    → now ≡ switch_tasks placing variable symbols goals ++ tasks
+switch_left placing variable symbols copied goals listed count before none inside at at' tasks t1 t2 now g y b i z k v v' e1 e2 e =
+    let own = rights_of (those_waits (λ other. other == variable) placing.waits) in
+    let rest = those_waits (others (λ other. other == variable)) placing.waits in
+    let inner = arm_tasks goals placing.first rest placing.signals in
+    let end = closed placing.goal (Switch variable symbols) (length own) (Signals [] (span_of placing.goal)) 0 in
+    let ends : t1 ≡ end ++ tasks =
+    e1 ∙ ap (λ l. closed placing.goal (Switch variable l) count (Signals none at) 0 ++ tasks) y
+    ∙ ap (λ n. closed placing.goal (Switch variable symbols) n (Signals none at) 0 ++ tasks) (k ∙ ap length b)
+    ∙ ap (λ l. closed placing.goal (Switch variable symbols) (length own) (Signals l at) 0 ++ tasks) z
+    ∙ ap (λ w. closed placing.goal (Switch variable symbols) (length own) (Signals [] w) 0 ++ tasks) v in
+    let arms_are : arm_tasks listed placing.first inside placing.signals ≡ inner =
+    ap (λ l. arm_tasks l placing.first inside placing.signals) g ∙ ap (λ l. arm_tasks goals placing.first l placing.signals) i in
+    e ∙ ap (λ l. Waits l at' ∷ t2) b ∙ ap (λ w. Waits own w ∷ t2) v'
+    ∙ ap (λ t. Waits own (span_of placing.goal) ∷ t) (e2 ∙ ap (λ l. l ++ t1) arms_are ∙ ap (λ l. inner ++ l) ends ∙ sym (append_assoc inner end tasks))
+
 -- side by side
 
 abbrev site_of : ℕ → Found → SiteInfo
 site_of children found = record { children = children; cells = found.cells.items; moves = found.moves.items }
 
 abbrev MovedIn : Found → Found → List Node → List Awaited → Type 0
-MovedIn found moved goals inside = Adds found moved [] (map move_of (flat_map (wait_shares goals) inside)) (flat_map (wait_shares goals) inside) []
+MovedIn found moved goals inside = Adds [] found moved [] (map move_of (flat_map (wait_shares goals) inside)) (flat_map (wait_shares goals) inside) []
 
 pub conjuncts_left : (placing : Placing) (goals listed : List Node) (start children number count : ℕ) (own inside : List Awaited) (outputs : List ℕ) (binds before : List Right) (found moved : Found)
     (at : Span) (sites sites' : List SiteInfo) (tasks t1 t2 now : List Task)
     → listed ≡ goals → start ≡ placing.first → own ≡ placing.waits → outputs ≡ outputs_of placing.goal → binds ≡ placing.signals → at ≡ span_of placing.goal
     → before ≡ rights_of (filter (stays (nodes_of listed)) own) → inside ≡ filter (moves (nodes_of listed)) own
-    → Finds listed outputs binds found → Adds found moved [] (map move_of (flat_map (wait_shares listed) inside)) (flat_map (wait_shares listed) inside) []
+    → Finds listed outputs binds found → Adds [] found moved [] (map move_of (flat_map (wait_shares listed) inside)) (flat_map (wait_shares listed) inside) []
     → children ≡ length listed → number ≡ length sites → count ≡ length before
     → sites' ≡ sites ++ record { children = length listed; cells = moved.cells.items; moves = moved.moves.items } ∷ []
-    → t1 ≡ site_tasks placing.goal children number count ++ tasks → t2 ≡ member_tasks start (shares_of 0 listed moved.waits.items moved.signals.items []) ++ t1 → now ≡ Waits before at ∷ t2
+    → t1 ≡ site_tasks placing.goal children number count ++ tasks → t2 ≡ member_tasks start (shares_of 0 listed moved.waits.items (numbered moved.signals.items) []) ++ t1 → now ≡ Waits before at ∷ t2
     → LeavesConjuncts placing goals sites sites' tasks now
 conjuncts_left placing goals listed start children number count own inside outputs binds before found moved at sites sites' tasks t1 t2 now g f w o b v be i finds adds k n c told e1 e2 e =
     let stay = rights_of (filter (stays (nodes_of goals)) placing.waits) in
     let stay_is = be ∙ ap (λ l. rights_of (filter (stays (nodes_of l)) own)) g ∙ ap (λ l. rights_of (filter (stays (nodes_of goals)) l)) w in
     let inside_is = i ∙ ap (λ l. filter (moves (nodes_of l)) own) g ∙ ap (λ l. filter (moves (nodes_of goals)) l) w in
-    let members = member_tasks placing.first (shares_of 0 goals moved.waits.items moved.signals.items []) in
-    let members_are : member_tasks start (shares_of 0 listed moved.waits.items moved.signals.items []) ≡ members =
-    ap (λ k. member_tasks k (shares_of 0 listed moved.waits.items moved.signals.items [])) f ∙ ap (λ l. member_tasks placing.first (shares_of 0 l moved.waits.items moved.signals.items [])) g in
+    let members = member_tasks placing.first (shares_of 0 goals moved.waits.items (numbered moved.signals.items) []) in
+    let members_are : member_tasks start (shares_of 0 listed moved.waits.items (numbered moved.signals.items) []) ≡ members =
+    ap (λ k. member_tasks k (shares_of 0 listed moved.waits.items (numbered moved.signals.items) [])) f ∙ ap (λ l. member_tasks placing.first (shares_of 0 l moved.waits.items (numbered moved.signals.items) [])) g in
     let site_is : site_tasks placing.goal children number count ≡ site_tasks placing.goal (length goals) (length sites) (length stay) =
     ap (λ k. site_tasks placing.goal k number count) (k ∙ ap length g) ∙ ap (λ k. site_tasks placing.goal (length goals) k count) n
     ∙ ap (λ k. site_tasks placing.goal (length goals) (length sites) k) (c ∙ ap length stay_is) in

@@ -3,8 +3,9 @@ ghost use Rattle.std.specs.Prelude.{◌≡◌, ◌++◌, List, [], ◌∷◌, le
 ghost use Rattle.merc_graded_tree.specs.declared.entries.Root.TheVariants.{Basic as BasicRoot, Disjunction as DisjunctionRoot, Negation as NegationRoot, Quantified};
 ghost use Rattle.merc_graded_tree.specs.Labels.{all_labels, arm_labels, labels_of};
 ghost use Rattle.merc_graded_tree.specs.Roots.{arms_of};
-ghost use Rattle.merc_graded_tree.specs.Nodes.{Node};
+ghost use Rattle.merc_graded_tree.specs.Nodes.{Node, outputs_of, span_of};
 ghost use Rattle.merc_par_split.specs.Constructs.{arm_tasks, conditional_tasks, site_tasks, switch_tasks, turn_tasks, whole_tasks, LeavesConjuncts, LeavesRunning};
+ghost use Rattle.merc_rights.specs.Groups.{numbered};
 ghost use Rattle.merc_rights.specs.Rights.{right_to};
 ghost use Rattle.merc_par_split.specs.Split.{may_fail};
 ghost use Rattle.merc_par_split.specs.Tasks.{closed, member_tasks, placed_tasks, relabelled, shares_of, Performs};
@@ -12,15 +13,15 @@ ghost use Rattle.merc_rights.specs.Places.{starts_of, Lies};
 ghost use Rattle.merc_par_split.specs.declared.tasks.Task.{Task};
 
 use crate::members::leave_members;
-use crate::tasks::{Placing, Task, Tasks, leave_wrap, relabelled};
+use crate::tasks::{Placing, Task, Tasks, leave_around, leave_close, leave_wrap, relabelled};
 use merc_base::{Category, NoMemory, Sequence};
 use merc_goal_tree::{Symbol, Var, Vars};
 use merc_graded_tree::{BasicGoal, NodeRef, NodeView, Parts, Root, Running, Site};
 use merc_rights::parting::rights;
 use merc_rights::{
-    Awaited, Found, Members, Occurrences, Right, Rows, SiteInfo, bound_shares, found_at, listed,
-    part_by_moves, part_by_use, part_by_variable, passed, put_moved, put_shares, signals_in_turn,
-    sum, waits_in_turn,
+    Awaited, Found, Members, Occurrences, Right, Rows, Signals, SiteInfo, bound_shares, found_at,
+    listed, part_by_moves, part_by_use, part_by_variable, passed, put_moved, put_shares,
+    signals_in_turn, sum, waits_in_turn,
 };
 use std::alloc::Global;
 
@@ -42,7 +43,7 @@ pub(crate) fn without_rights<'a>(alloc: Global, goal: NodeRef<'a>, first: usize)
         goal,
         first,
         waits: Sequence::new(alloc),
-        signals: Sequence::new(alloc),
+        signals: Signals::none(alloc),
     })
 }
 
@@ -67,13 +68,13 @@ pub(crate) fn place<'a>(
         waits,
         signals,
     } = placing;
-    leave_wrap(alloc, &goal, signals.as_slice().len(), tasks)?;
+    leave_wrap(alloc, &goal, signals.len()?, tasks)?;
     tasks.push(Task::Signals(signals, goal.span()))?;
     tasks.push(Task::Enter(Placing {
         goal,
         first,
         waits,
-        signals: Sequence::new(alloc),
+        signals: Signals::none(alloc),
     }))
 }
 
@@ -230,9 +231,9 @@ fn leave_closed<'a>(
 ) -> Result<(), NoMemory>
     ensures { OnOk result (tasks.new ≡ closed goal.now root before behind.entry count ++ tasks.old) }
 {
-    leave_wrap(alloc, goal, sum(before, count)?, tasks)?;
+    leave_around(alloc, goal, before, count, tasks)?;
     tasks.push(behind)?;
-    tasks.push(Task::Close(relabelled(alloc, goal, root)?))
+    leave_close(alloc, goal, root, tasks)
 }
 
 // Leaves a goal with all rights around it. The goals that it joins have none.
@@ -252,7 +253,7 @@ fn leave_whole<'a>(
         signals,
     } = placing;
     let before = waits.as_slice().len();
-    let count = signals.as_slice().len();
+    let count = signals.len()?;
     let behind = Task::Signals(signals, goal.span());
     leave_closed(alloc, &goal, root, before, behind, count, tasks)?;
     let members = Members::of(alloc, goals, first)?;
@@ -260,7 +261,7 @@ fn leave_whole<'a>(
         alloc,
         members,
         &Rows::none(alloc),
-        &Rows::none(alloc),
+        Vec::new(alloc),
         &Rows::none(alloc),
         tasks,
     )?;
@@ -282,8 +283,8 @@ fn leave_turns<'a>(
     tasks.push(Task::Close(relabelled(alloc, &placing.goal, root)?))?;
     let members = Members::of(alloc, listed(alloc, goals)?, placing.first)?;
     let waits = waits_in_turn(alloc, occurrences, &members, placing.waits.as_slice())?;
-    let signals = signals_in_turn(alloc, &members, placing.signals.as_slice())?;
-    leave_members(alloc, members, &waits, &signals, &Rows::none(alloc), tasks)
+    let signals = signals_in_turn(alloc, &members, placing.signals)?;
+    leave_members(alloc, members, &waits, signals, &Rows::none(alloc), tasks)
 }
 
 // Leaves goals of which one is chosen: each right goes to all that use its variable, or bind it, and what is used behind is
@@ -294,18 +295,18 @@ fn leave_arms<'a>(
     goals: Vec<NodeRef<'a>>,
     first: usize,
     waits: &[Awaited],
-    signals: &[Right],
+    signals: Signals,
     tasks: &mut Tasks<'a>,
 ) -> Result<(), NoMemory>
     requires { Lies (labels_of occurrences.now) first (all_labels goals.items) }
-    ensures { OnOk result (tasks.new ≡ arm_tasks goals.entry.items first waits.now signals.now ++ tasks.old) }
+    ensures { OnOk result (tasks.new ≡ arm_tasks goals.entry.items first waits.now signals ++ tasks.old) }
 {
     let members = Members::of(alloc, goals, first)?;
     let mut shares = Vec::new(alloc);
     put_shares(alloc, occurrences, &members, waits, &mut shares)?;
     let passed = passed(alloc, occurrences, &members, waits)?;
     let bound = bound_shares(alloc, &members, signals)?;
-    leave_members(alloc, members, &Rows::of(shares)?, &bound, &passed, tasks)
+    leave_members(alloc, members, &Rows::of(shares)?, bound, &passed, tasks)
 }
 
 // Leaves a switch. What it looks at is waited for before it.
@@ -329,20 +330,12 @@ fn leave_switch<'a>(
     } = placing;
     let parted = part_by_variable(alloc, variable, waits.as_slice())?;
     let root = Root::Switch(variable, symbols.try_clone(alloc)?);
-    let behind = Task::Signals(Sequence::new(alloc), goal.span());
+    let behind = Task::Signals(Signals::none(alloc), goal.span());
     let before = parted.before.as_slice().len();
     leave_closed(alloc, &goal, root, before, behind, 0, tasks)?;
     let goals = listed(alloc, arms)?;
     let inside = parted.inside.as_slice();
-    leave_arms(
-        alloc,
-        occurrences,
-        goals,
-        first,
-        inside,
-        signals.as_slice(),
-        tasks,
-    )?;
+    leave_arms(alloc, occurrences, goals, first, inside, signals, tasks)?;
     tasks.push(Task::Waits(parted.before, goal.span()))
 }
 
@@ -368,20 +361,12 @@ fn leave_conditional<'a>(
     let past = sum(first, condition.part_count())?;
     let asked = Members::of(alloc, single(alloc, condition.copy())?, first)?;
     let parted = part_by_use(alloc, occurrences, &asked, waits.as_slice())?;
-    let behind = Task::Signals(Sequence::new(alloc), goal.span());
+    let behind = Task::Signals(Signals::none(alloc), goal.span());
     let before = parted.before.as_slice().len();
     leave_closed(alloc, &goal, Root::Conditional, before, behind, 0, tasks)?;
     let arms = pair(alloc, then_part, else_part)?;
     let inside = parted.inside.as_slice();
-    leave_arms(
-        alloc,
-        occurrences,
-        arms,
-        past,
-        inside,
-        signals.as_slice(),
-        tasks,
-    )?;
+    leave_arms(alloc, occurrences, arms, past, inside, signals, tasks)?;
     tasks.push(without_rights(alloc, condition, first))?;
     tasks.push(Task::Waits(parted.before, goal.span()))
 }
@@ -422,7 +407,7 @@ fn leave_conjuncts<'a>(
     let members = Members::of(alloc, listed(alloc, goals)?, first)?;
     let parted = part_by_moves(alloc, occurrences, &members, waits.as_slice())?;
     let outputs = goal.outputs().as_slice();
-    let mut found = found_at(alloc, occurrences, &members, outputs, signals.as_slice())?;
+    let mut found = found_at(alloc, occurrences, &members, outputs, signals)?;
     put_moved(
         alloc,
         occurrences,
@@ -455,9 +440,22 @@ fn leave_site<'a>(
     ensures { OnOk result (tasks.new ≡ site_tasks goal.now children number before ++ tasks.old) }
 {
     let outputs = goal.outputs().as_slice();
+    leave_around(alloc, goal, before, outputs.len(), tasks)?;
+    leave_outputs(alloc, goal, tasks)?;
     let root = Root::Conjunction(Running::Parallel(Some(Site { number })), children);
-    let behind = Task::Waits(parent_waits(alloc, outputs)?, goal.span());
-    leave_closed(alloc, goal, root, before, behind, outputs.len(), tasks)
+    leave_close(alloc, goal, root, tasks)
+}
+
+// Leaves the parent's waits for the outputs.
+fn leave_outputs<'a>(
+    alloc: Global,
+    goal: &NodeRef<'a>,
+    tasks: &mut Tasks<'a>,
+) -> Result<(), NoMemory>
+    ensures { OnOk result (tasks.new ≡ Task.Waits (map (right_to 0) (outputs_of goal.now)) (span_of goal.now) ∷ tasks.old) }
+{
+    let waits = parent_waits(alloc, goal.outputs().as_slice())?;
+    tasks.push(Task::Waits(waits, goal.span()))
 }
 
 // The parent's waits for the outputs.
@@ -483,7 +481,7 @@ fn leave_found<'a>(
     sites: &mut Vec<SiteInfo>,
 ) -> Result<(), NoMemory>
     requires { members.starts.items ≡ starts_of members.first members.goals.items }
-    ensures tasks { OnOk result (tasks.new ≡ member_tasks members.entry.first (shares_of 0 members.entry.goals.items found.waits.items found.signals.items []) ++ tasks.old) }
+    ensures tasks { OnOk result (tasks.new ≡ member_tasks members.entry.first (shares_of 0 members.entry.goals.items found.waits.items (numbered found.signals.items) []) ++ tasks.old) }
     ensures sites { OnOk result (sites.new.items ≡ sites.old.items ++ record { children = length members.entry.goals.items; cells = found.cells.items; moves = found.moves.items } ∷ []) }
 {
     let Found {
@@ -498,6 +496,5 @@ fn leave_found<'a>(
         moves: Sequence::from_vec(moves),
     })?;
     let waits = Rows::of(waits)?;
-    let signals = Rows::of(signals)?;
-    leave_members(alloc, members, &waits, &signals, &Rows::none(alloc), tasks)
+    leave_members(alloc, members, &waits, signals, &Rows::none(alloc), tasks)
 }

@@ -5,7 +5,7 @@ use Rattle.std.specs.List.Sorted.{IsNonDecreasing, IsNonDecreasingBy}
 use Rattle.std.specs.Option.{option_map}
 use Rattle.std.proofs.Common.{◌∙◌, ap, sym, subst, arith}
 use Rattle.std.proofs.lemmas.Bool.Decides.{nat_tests}
-use Rattle.std.proofs.lemmas.List.{length-map, append-nil, append_assoc, flat_map_more, get_or_default, take_more, drop_more}
+use Rattle.std.proofs.lemmas.List.{length-map, append-nil, append_assoc, map-append, flat_map_more, get_or_default, take_more, take_all, drop_more}
 use Rattle.merc_graded_tree.specs.Nodes.{Node, outputs_of}
 use Rattle.merc_graded_tree.specs.Variables.{among}
 use Rattle.merc_rights.specs.Rows.{row_of, next_from, numbers_from, each_from, pairs_from, Tells}
@@ -147,6 +147,23 @@ pub flat_more : {X Y : Type 0} (f : X → List Y) (items : List X) (index : ℕ)
 flat_more f items index item before old new is less same put =
     put ∙ ap (λ l. l ++ f item) same ∙ flat_map_more f before (take index items) item
     ∙ ap (λ l. before ++ flat_map f l) (sym (take_more items index item less ∙ ap (λ x. take index items ++ x ∷ []) (sym is)))
+
+pub map_more : {X Y : Type 0} (f : X → Y) (items : List X) (index : ℕ) (item : X) (before old new : List Y) → item ≡ slice_index_or items index item → index < length items
+    → old ≡ before ++ map f (take index items) → new ≡ old ++ f item ∷ [] → new ≡ before ++ map f (take (index + 1) items)
+map_more f items index item before old new is less same put =
+    put ∙ ap (λ l. l ++ f item ∷ []) same ∙ append_assoc before (map f (take index items)) (f item ∷ [])
+    ∙ ap (λ l. before ++ l) (sym (map-append f (take index items) (item ∷ [])) ∙ ap (map f) (sym (take_more items index item less ∙ ap (λ x. take index items ++ x ∷ []) (sym is))))
+
+pub map_more_at : {X Y : Type 0} (f : X → Y) (items : List X) (index : ℕ) (d : X) (before old new : List Y) → index < length items
+    → old ≡ before ++ map f (take index items) → new ≡ old ++ f (slice_index_or items index d) ∷ [] → new ≡ before ++ map f (take (index + 1) items)
+map_more_at f items index d before old new less same put =
+    put ∙ ap (λ l. l ++ f (slice_index_or items index d) ∷ []) same ∙ append_assoc before (map f (take index items)) (f (slice_index_or items index d) ∷ [])
+    ∙ ap (λ l. before ++ l) (sym (map-append f (take index items) (slice_index_or items index d ∷ [])) ∙ ap (map f) (sym (take_more items index d less)))
+
+-- all of them
+
+pub map_all : {X Y : Type 0} (f : X → Y) (items : List X) (index : ℕ) (before old : List Y) → length items ≤ index → old ≡ before ++ map f (take index items) → old ≡ before ++ map f items
+map_all f items index before old least same = same ∙ ap (λ l. before ++ map f l) (take_all index items least)
 
 -- one list more
 

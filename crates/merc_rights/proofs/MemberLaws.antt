@@ -4,7 +4,7 @@ use Rattle.std.specs.List.{filter, list_any}
 use Rattle.std.specs.List.Sorted.{IsNonDecreasing}
 use Rattle.std.proofs.Common.{◌∙◌, ap, sym, subst, arith}
 use Rattle.std.proofs.lemmas.Bool.Decides.{nat_tests}
-use Rattle.std.proofs.lemmas.List.{append_assoc, map-append, length-append, length-map, length-take-le, take_all, drop_more, append-nil, take-append-drop}
+use Rattle.std.proofs.lemmas.List.{append_assoc, map-append, length-append, length-map, length-take-le, take_all, drop_all, drop_more, append-nil, take-append-drop}
 use Rattle.merc_graded_tree.specs.declared.entries.Label.{Label}
 use Rattle.merc_graded_tree.specs.Nodes.{Node, node, Basic, Conjunction, Disjunction, Switch, Conditional, Negation, Quantified, Nodes, no_nodes, more_nodes, Arms, no_arms, more_arms}
 use Rattle.merc_graded_tree.specs.Labels.{labels_of, joined_labels, arm_labels, all_labels}
@@ -189,6 +189,17 @@ length-starts start [] = refl
 length-starts start (first ∷ rest) = ap suc (length-starts (start + length (labels_of first)) rest)
 
 -- the start at a number, and the last one
+pub starts_more : (goals : List Node) (index : ℕ) (goal : Node) (start next : ℕ) (old new all : List ℕ) → goal ≡ slice_index_or goals index goal → index < length goals
+    → new ≡ old ++ start ∷ [] → next ≡ start + length (labels_of goal) → old ++ starts_of start (drop index goals) ≡ all → new ++ starts_of next (drop (index + 1) goals) ≡ all
+starts_more goals index goal start next old new all is less put past so =
+    let rest = drop (index + 1) goals in
+    ap (λ l. l ++ starts_of next rest) put ∙ append_assoc old (start ∷ []) (starts_of next rest)
+    ∙ ap (λ n. old ++ start ∷ starts_of n rest) past
+    ∙ ap (λ l. old ++ starts_of start l) (ap (λ g. g ∷ rest) is ∙ sym (drop_more goals index goal less)) ∙ so
+
+pub starts_end : (goals : List Node) (index start : ℕ) (old new all : List ℕ) → length goals ≤ index → new ≡ old ++ start ∷ [] → old ++ starts_of start (drop index goals) ≡ all → new ≡ all
+starts_end goals index start old new all least put so = put ∙ ap (λ l. old ++ starts_of start l) (sym (drop_all index goals least)) ∙ so
+
 pub start_at : (start number d : ℕ) (goals : List Node) → number ≤ length goals → slice_index_or (starts_of start goals) number d ≡ start + length (all_labels (take number goals))
 start_at start zero d [] less = omega arith
 start_at start zero d (first ∷ rest) less = omega arith

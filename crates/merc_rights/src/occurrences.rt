@@ -16,7 +16,7 @@ use std::marker::Model;
 
 /// Numbers by variable, in order.
 #[derive(Drop)]
-pub(crate) struct Index {
+pub struct Index {
     rows: Rows<usize>,
 }
 
@@ -38,7 +38,7 @@ impl Index {
     /// # Errors
     ///
     /// `NoMemory` where memory was refused.
-    pub(crate) fn of(pairs: Vec<(usize, usize)>) -> Result<Index, NoMemory>
+    pub fn of(pairs: Vec<(usize, usize)>) -> Result<Index, NoMemory>
         requires { (variable : ℕ) → IsNonDecreasing (row_of variable pairs.items) }
         ensures { IfOk result (λ index. (variable : ℕ) → row_of variable index ≡ row_of variable pairs.items) }
     {
@@ -48,7 +48,7 @@ impl Index {
     }
 
     /// The first number of a variable from one on.
-    pub(crate) fn next(&self, variable: Var, from: usize) -> Option<usize>
+    pub fn next(&self, variable: Var, from: usize) -> Option<usize>
         ensures { result ≡ find (nat_le from) (row_of variable self.now) }
     {
         first_from(self.rows.row(variable.number()), from)
@@ -114,7 +114,7 @@ impl<'a> Occurrences<'a> {
     }
 
     /// The first part from an index on that holds the variable.
-    pub(crate) fn first_from(&self, variable: Var, from: usize) -> Option<usize>
+    pub fn first_from(&self, variable: Var, from: usize) -> Option<usize>
         ensures { result ≡ next_from (λ list. among list variable) from 0 (uses_of self.now) }
     {
         self.index.next(variable, from)
@@ -161,18 +161,12 @@ fn put_basic(
         BasicGoal::True | BasicGoal::Fail => Ok(()),
         BasicGoal::Assign(one, other)
         | BasicGoal::Test(one, other)
-        | BasicGoal::Compare(_, one, other) => {
-            put(*one, index, pairs)?;
-            put(*other, index, pairs)
-        }
+        | BasicGoal::Compare(_, one, other) => put_two(*one, *other, index, pairs),
         BasicGoal::Build(whole, _, arguments) | BasicGoal::Split(whole, _, arguments) => {
-            put(*whole, index, pairs)?;
-            put_all(arguments.as_slice(), index, pairs)
+            put_with_all(*whole, arguments.as_slice(), index, pairs)
         }
         BasicGoal::Arithmetic(_, result, left, right) => {
-            put(*result, index, pairs)?;
-            put(*left, index, pairs)?;
-            put(*right, index, pairs)
+            put_three(*result, *left, *right, index, pairs)
         }
         BasicGoal::Raise(variable)
         | BasicGoal::Wait(variable, _)
@@ -181,12 +175,52 @@ fn put_basic(
     }
 }
 
+// Puts two variables with a number behind the others.
+fn put_two(
+    one: Var,
+    other: Var,
+    number: usize,
+    pairs: &mut Vec<(usize, usize)>,
+) -> Result<(), NoMemory>
+    ensures { OnOk result (pairs.new.items ≡ pairs.old.items ++ (one, number) ∷ (other, number) ∷ []) }
+{
+    put(one, number, pairs)?;
+    put(other, number, pairs)
+}
+
+// Puts three variables with a number behind the others.
+fn put_three(
+    one: Var,
+    other: Var,
+    last: Var,
+    number: usize,
+    pairs: &mut Vec<(usize, usize)>,
+) -> Result<(), NoMemory>
+    ensures { OnOk result (pairs.new.items ≡ pairs.old.items ++ (one, number) ∷ (other, number) ∷ (last, number) ∷ []) }
+{
+    put(one, number, pairs)?;
+    put_two(other, last, number, pairs)
+}
+
+// Puts a variable and then others, all with a number, behind the others.
+fn put_with_all(
+    first: Var,
+    rest: &[Var],
+    number: usize,
+    pairs: &mut Vec<(usize, usize)>,
+) -> Result<(), NoMemory>
+    ensures { OnOk result (pairs.new.items ≡ pairs.old.items ++ (first, number) ∷ map (λ variable. (variable, number)) rest.now) }
+{
+    put(first, number, pairs)?;
+    put_all(rest, number, pairs)
+}
+
 /// Puts variables, each with a number, behind the others.
 ///
 /// # Errors
 ///
 /// `NoMemory` where memory was refused.
-pub(crate) fn put_all(
+pub fn put_all(
     variables: &[Var],
     number: usize,
     pairs: &mut Vec<(usize, usize)>,
@@ -199,8 +233,12 @@ pub(crate) fn put_all(
     Ok(())
 }
 
-// Puts a variable with a number behind the others.
-fn put(variable: Var, number: usize, pairs: &mut Vec<(usize, usize)>) -> Result<(), NoMemory>
+/// Puts a variable with a number behind the others.
+///
+/// # Errors
+///
+/// `NoMemory` where memory was refused.
+pub fn put(variable: Var, number: usize, pairs: &mut Vec<(usize, usize)>) -> Result<(), NoMemory>
     ensures { OnOk result (pairs.new.items ≡ pairs.old.items ++ (variable, number) ∷ []) }
 {
     pairs.push((variable.number(), number))?;
