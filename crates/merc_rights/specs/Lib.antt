@@ -4,6 +4,7 @@ pub mod Rows
 pub mod Uses
 pub mod RowsExamples
 pub mod Groups
+pub mod GroupsExamples
 pub mod Waits
 pub mod WaitsExamples
 pub mod Places

@@ -1,5 +1,5 @@
-use Rattle.std.proofs.Common.{◌∙◌, ap, subst, refl}
-use Rattle.merc_rights.specs.Groups.{all_rights, by_variable, held_variables, AreHeld}
+use Rattle.std.proofs.Common.{◌∙◌, subst, refl}
+use Rattle.merc_rights.specs.Groups.{by_variable, held_variables, AreHeld}
 use Rattle.merc_rights.proofs.JoinLaws.{are_held}
 use Rattle.merc_rights.proofs.conjuncts.found_at.Goals as goal
 

@@ -1,6 +1,6 @@
 use Rattle.std.proofs.Common.{◌∙◌, ◌≡◌, ◌∷◌, ◌++◌, ◌+◌, [], length, reverse, ap, sym, subst, refl, arith}
 use Rattle.std.proofs.lemmas.List.{append_assoc, append-nil, length-append}
-use Rattle.merc_rights.specs.Groups.{by_variable, numbered, numbered_with, rights_in, AllFor, AreAt}
+use Rattle.merc_rights.specs.Groups.{by_variable, numbered, numbered_with, rights_in, AllFor}
 use Rattle.merc_rights.specs.Rights.{with_rights}
 use Rattle.merc_rights.specs.Rows.{row_of}
 use Rattle.merc_rights.proofs.JoinLaws.{all_own, joined_more}

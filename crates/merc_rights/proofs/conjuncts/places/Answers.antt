@@ -1,4 +1,4 @@
-use Rattle.std.proofs.Common.{◌∙◌, ap, sym, arith, map, take, ◌++◌, ◌∷◌, [], ◌+◌, ℕ, List}
+use Rattle.std.proofs.Common.{◌∙◌, ap, sym, arith, map, take, ◌∷◌, [], ◌+◌, ℕ, List}
 use Rattle.std.proofs.lemmas.List.{take_all, take-map}
 use Rattle.std.proofs.lemmas.Result.{IfOk-weaker}
 use Rattle.merc_rights.specs.Rows.{row_of, pairs_from}

@@ -1,4 +1,4 @@
-use Rattle.std.proofs.Common.{◌∙◌, ◌∷◌, [], ap, map, subst}
+use Rattle.std.proofs.Common.{◌∷◌, [], map, subst}
 use Rattle.std.proofs.lemmas.Result.{IfOk-weaker}
 use Rattle.merc_rights.specs.Groups.{numbered}
 use Rattle.merc_rights.specs.Rows.{Tells}

@@ -1,5 +1,3 @@
-use Rattle.std.proofs.Common.{◌∙◌, ap}
-use Rattle.merc_rights.specs.Groups.{in_order}
 use Rattle.merc_rights.proofs.GroupLaws.{joined_is}
 use Rattle.merc_rights.proofs.groups.Group.joined.Goals as goal
 
