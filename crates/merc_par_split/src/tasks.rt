@@ -8,6 +8,7 @@ use merc_graded_tree::{Label, NodeRef, Root, Running};
 use merc_rights::{Awaited, Right, sum};
 use std::alloc::Global;
 use std::marker::Model;
+use std::mem;
 
 /// A goal of a conjunct, with its rights.
 #[derive(Drop)]
@@ -19,6 +20,24 @@ pub(crate) struct Placing<'a> {
     pub(crate) waits: Sequence<Awaited>,
     /// Each for a variable that the goal binds.
     pub(crate) signals: Sequence<Right>,
+}
+
+impl<'a> Placing<'a> {
+    /// Takes the rights to signal. None are left.
+    pub(crate) fn take_signals(&mut self, alloc: Global) -> Sequence<Right>
+        ensures taken { result ≡ self.old.signals }
+        ensures left { self.new ≡ record { goal = self.old.goal; first = self.old.first; waits = self.old.waits; signals = [] } }
+    {
+        mem::replace(&mut self.signals, Sequence::new(alloc))
+    }
+
+    /// Takes the rights to wait. None are left.
+    pub(crate) fn take_waits(&mut self, alloc: Global) -> Sequence<Awaited>
+        ensures taken { result ≡ self.old.waits }
+        ensures left { self.new ≡ record { goal = self.old.goal; first = self.old.first; waits = []; signals = self.old.signals } }
+    {
+        mem::replace(&mut self.waits, Sequence::new(alloc))
+    }
 }
 
 /// One thing to do.

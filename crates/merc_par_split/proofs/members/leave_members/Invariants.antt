@@ -8,7 +8,7 @@ abbrev pub invariant-loop-goal : goal.invariant-loop-goal
 invariant-loop-goal l = record {
   rest : List Node;
   are : l.fn.members.goals.items ≡ l.goals.items ++ rest;
-  left : l.tasks ≡ member_tasks (l.fn.members.first + length (all_labels l.goals.items)) (shares_of (length l.goals.items) rest l.waits l.signals l.passed) ++ l.fn.tasks;
+  left : l.tasks ≡ member_tasks (l.fn.members.first + length (all_labels l.goals.items)) (shares_of (length l.goals.items) rest l.fn.shares.waits l.fn.shares.signals l.fn.shares.passed) ++ l.fn.tasks;
 }
 
 abbrev pub decreases-loop-goal : goal.decreases-loop-goal

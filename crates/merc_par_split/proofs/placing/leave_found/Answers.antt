@@ -7,6 +7,6 @@ pub returns-clause-tasks : goal.returns-clause-tasks
 returns-clause-tasks c =
     let members = c.args.members in
     let found = c.args.found in
-    ok_weaker c.leave_members-2.result _ _
-    (members_left members.first members.first members.goals.items members.goals.items found.waits.items c.in_ok-waits.waits found.signals.items c.in_ok-signals.signals [] c.none.result
-    c.args.tasks.now c.leave_members-2.new.tasks refl refl c.in_ok-waits.ensures c.in_ok-signals.ensures (λ n. ap (λ l. row_of n l) c.none.ensures)) c.leave_members-2.ensures
+    ok_weaker c.leave_members.result _ _
+    (members_left members.first members.first members.goals.items members.goals.items found.waits.items c.in_ok-of.field-0 found.signals.items c.in_ok-of-2.field-0 [] c.none.result
+    c.args.tasks.now c.leave_members.new.tasks refl refl c.in_ok-of.ensures c.in_ok-of-2.ensures (λ n. ap (λ l. row_of n l) c.none.ensures)) c.leave_members.ensures

@@ -1,4 +1,3 @@
-use Rattle.std.proofs.Common.{[]}
 use Rattle.merc_rights.proofs.Indexes.{map_more_at, map_all}
 use Rattle.merc_rights.proofs.conjuncts.put_cells.Goals as goal
 

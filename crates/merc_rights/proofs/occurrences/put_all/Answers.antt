@@ -1,4 +1,3 @@
-use Rattle.std.proofs.Common.{[]}
 use Rattle.merc_rights.proofs.Indexes.{map_more, map_all}
 use Rattle.merc_rights.proofs.occurrences.put_all.Goals as goal
 
