@@ -29,6 +29,7 @@ use Rattle.merc_par_split.proofs.StepLaws.{at_with, after-append}
 use Rattle.merc_par_split.proofs.ConstructLaws.{list-nodes, entered_as, turn_same, basic_same, disjunction_same, negation_same, quantified_same, switch_same, conditional_same}
 use Rattle.merc_par_split.proofs.SideLaws.{site_frame, conjunct_tasks, tasks_are, conjuncts_same}
 use Rattle.merc_par_split.proofs.EffortLaws.{Goes, goes-append, members_go, framed_go, total-append, labels-count, members-effort, framed-effort, lies-front, lies-back, lies-inner, joined-all, armed-all, Lie, lie-append, members-lie, framed-lie}
+use Rattle.merc_rights.specs.Groups.{numbered}
 
 shares-length : (number : ℕ) (goals : List Node) (waits : List (ℕ × Awaited)) (signals passed : List (ℕ × Right)) → length (shares_of number goals waits signals passed) ≡ length goals
 shares-length number [] waits signals passed = refl
@@ -187,7 +188,7 @@ module _ (whole : Node) (placing : Placing) (goals : List Node) (sites : List Si
   conjuncts_perform unknown list sites' tasks tasks' is leaves =
       let members = conjunct_tasks placing list sites sites' tasks tasks' leaves in
       let waits = leaves.with_moved.waits.items in
-      let signals = leaves.with_moved.signals.items in
+      let signals = numbered leaves.with_moved.signals.items in
       let root = ConjunctionRoot (Parallel (Some (record { number = length sites }))) (length list) in
       let before = rights_of (filter (stays (nodes_of list)) placing.waits) in
       let behind = Waits (map (right_to 0) (outputs_of placing.goal)) (span_of placing.goal) in

@@ -15,6 +15,7 @@ use Rattle.merc_graded_tree.specs.Labels.{labels_of, all_labels}
 use Rattle.merc_graded_tree.specs.Variables.{in_node}
 use Rattle.merc_rights.specs.Rights.{Right}
 use Rattle.merc_rights.specs.Rows.{row_of}
+use Rattle.merc_rights.specs.Groups.{numbered}
 use Rattle.merc_rights.specs.Members.{turn_wait, turn_signal, wait_shares, signal_shares, pass_shares}
 use Rattle.merc_rights.specs.Waits.{rights_of, those_waits, others, moves, stays}
 use Rattle.merc_par_split.specs.Constructs.{whole_tasks, turn_tasks, arm_tasks, switch_tasks, conditional_tasks, site_tasks, FindsMoved, LeavesConjuncts}
@@ -237,15 +238,15 @@ pub conjuncts_left : (placing : Placing) (goals listed : List Node) (start : ℕ
     → listed ≡ goals → start ≡ placing.first → at ≡ span_of placing.goal
     → before ≡ rights_of (filter (stays (nodes_of listed)) placing.waits) → inside ≡ filter (moves (nodes_of listed)) placing.waits → FindsMoved listed placing inside found
     → sites' ≡ sites ++ site_of (length listed) found ∷ []
-    → t2 ≡ member_tasks start (shares_of 0 listed found.waits.items found.signals.items []) ++ (site_tasks placing.goal (length listed) (length sites) (length before) ++ tasks) → now ≡ Waits before at ∷ t2
+    → t2 ≡ member_tasks start (shares_of 0 listed found.waits.items (numbered found.signals.items) []) ++ (site_tasks placing.goal (length listed) (length sites) (length before) ++ tasks) → now ≡ Waits before at ∷ t2
     → LeavesConjuncts placing goals sites sites' tasks now
 conjuncts_left placing goals listed start inside before found at sites sites' tasks t2 now g f v be i finds told e2 e =
     let stay = rights_of (filter (stays (nodes_of goals)) placing.waits) in
     let stay_is = be ∙ ap (λ l. rights_of (filter (stays (nodes_of l)) placing.waits)) g in
     let inside_is = i ∙ ap (λ l. filter (moves (nodes_of l)) placing.waits) g in
-    let members = member_tasks placing.first (shares_of 0 goals found.waits.items found.signals.items []) in
-    let members_are : member_tasks start (shares_of 0 listed found.waits.items found.signals.items []) ≡ members =
-    ap (λ k. member_tasks k (shares_of 0 listed found.waits.items found.signals.items [])) f ∙ ap (λ l. member_tasks placing.first (shares_of 0 l found.waits.items found.signals.items [])) g in
+    let members = member_tasks placing.first (shares_of 0 goals found.waits.items (numbered found.signals.items) []) in
+    let members_are : member_tasks start (shares_of 0 listed found.waits.items (numbered found.signals.items) []) ≡ members =
+    ap (λ k. member_tasks k (shares_of 0 listed found.waits.items (numbered found.signals.items) [])) f ∙ ap (λ l. member_tasks placing.first (shares_of 0 l found.waits.items (numbered found.signals.items) [])) g in
     let site_is : site_tasks placing.goal (length listed) (length sites) (length before) ≡ site_tasks placing.goal (length goals) (length sites) (length stay) =
     ap (λ k. site_tasks placing.goal k (length sites) (length before)) (ap length g) ∙ ap (λ k. site_tasks placing.goal (length goals) (length sites) k) (ap length stay_is) in
     let all : FindsMoved goals placing (filter (moves (nodes_of goals)) placing.waits) found =

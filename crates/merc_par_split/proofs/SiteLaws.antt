@@ -12,7 +12,8 @@ use Rattle.merc_rights.specs.Rows.{row_of, numbers_from, each_from}
 use Rattle.merc_par_split.specs.Sites.{count, consumers, cells_of, are_for, signal_moves, wait_moves}
 use Rattle.merc_rights.specs.declared.rights.Awaited.{Awaited}
 use Rattle.merc_par_split.proofs.ShareLaws.{flat-map-those}
-use Rattle.merc_par_split.proofs.ConjunctLaws.{Stands, row-flat, row-each, flat-same, flat-none, each-append, each-behind, users-from, consumers_same}
+use Rattle.merc_rights.proofs.FlatLaws.{row-flat, flat-same, flat-none}
+use Rattle.merc_par_split.proofs.ConjunctLaws.{Stands, row-each, each-append, each-behind, users-from, consumers_same}
 
 -- rights by their variables
 rights_for : (variable : ℕ) (signals : List Right) → row_of variable (map (λ right. (right.variable, right)) signals) ≡ those (λ other. other == variable) signals

@@ -19,6 +19,7 @@ use Rattle.merc_rights.specs.declared.sites.SiteInfo.{SiteInfo}
 use Rattle.merc_par_split.specs.declared.tasks.Placing.{Placing}
 use Rattle.merc_par_split.specs.declared.tasks.Task.{Task}
 use Rattle.merc_par_split.specs.declared.tasks.Task.TheVariants.{Place, Waits, Signals, Close}
+use Rattle.merc_rights.specs.Groups.{numbered}
 
 abbrev pub whole_tasks : Placing → Root → List Node → List Task
 whole_tasks placing root goals =
@@ -56,17 +57,17 @@ site_tasks whole children number before =
 pub record FindsMoved (goals : List Node) (placing : Placing) (inside : List Awaited) (found : Found) : Type 0 where
   pub own : Found
   pub finds : Finds goals (outputs_of placing.goal) placing.signals own
-  pub adds : Adds own found [] (map move_of (flat_map (wait_shares goals) inside)) (flat_map (wait_shares goals) inside) []
+  pub adds : Adds [] own found [] (map move_of (flat_map (wait_shares goals) inside)) (flat_map (wait_shares goals) inside) []
 
 -- What is found at an `&` and what moves in is told at the site, and goes to the conjuncts.
 pub record LeavesConjuncts (placing : Placing) (goals : List Node) (sites sites' : List SiteInfo) (tasks tasks' : List Task) : Type 0 where
   pub found : Found
   pub with_moved : Found
   pub finds : Finds goals (outputs_of placing.goal) placing.signals found
-  pub adds : Adds found with_moved [] (map move_of (flat_map (wait_shares goals) (filter (moves (nodes_of goals)) placing.waits))) (flat_map (wait_shares goals) (filter (moves (nodes_of goals)) placing.waits)) []
+  pub adds : Adds [] found with_moved [] (map move_of (flat_map (wait_shares goals) (filter (moves (nodes_of goals)) placing.waits))) (flat_map (wait_shares goals) (filter (moves (nodes_of goals)) placing.waits)) []
   pub told : sites' ≡ sites ++ record { children = length goals; cells = with_moved.cells.items; moves = with_moved.moves.items } ∷ []
   pub left : tasks' ≡ Waits (rights_of (filter (stays (nodes_of goals)) placing.waits)) (span_of placing.goal)
-      ∷ (member_tasks placing.first (shares_of 0 goals with_moved.waits.items with_moved.signals.items [])
+      ∷ (member_tasks placing.first (shares_of 0 goals with_moved.waits.items (numbered with_moved.signals.items) [])
       ++ (site_tasks placing.goal (length goals) (length sites) (length (rights_of (filter (stays (nodes_of goals)) placing.waits))) ++ tasks))
 
 -- .. in this way

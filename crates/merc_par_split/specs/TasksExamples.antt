@@ -17,6 +17,7 @@ use Rattle.merc_par_split.specs.declared.tasks.Placing.{Placing}
 use Rattle.merc_par_split.specs.declared.tasks.Task.{Task}
 use Rattle.merc_par_split.specs.declared.tasks.Task.TheVariants.{Place, Enter, Waits, Signals, Close}
 use Rattle.merc_par_split.specs.Constructs.{turn_tasks, site_tasks, FindsMoved, LeavesRunning}
+use Rattle.merc_rights.specs.Groups.{numbered_with}
 use Rattle.merc_rights.specs.Members.{Finds}
 use Rattle.merc_rights.specs.Waits.{fresh}
 use Rattle.merc_rights.specs.Rights.{Right, right_to}
@@ -128,7 +129,7 @@ FindsMoved-example found finds = record {
     more_cells = sym (append-nil found.cells.items);
     more_moves = sym (append-nil found.moves.items);
     more_waits = sym (append-nil found.waits.items);
-    more_signals = sym (append-nil found.signals.items);
+    more_signals = sym (append-nil (numbered_with [] found.signals.items));
   };
 }
 

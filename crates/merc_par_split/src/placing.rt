@@ -10,6 +10,7 @@ ghost use Rattle.merc_par_split.specs.Constructs.{arm_tasks, conditional_tasks, 
 ghost use Rattle.merc_par_split.specs.Split.{may_fail};
 ghost use Rattle.merc_par_split.specs.Tasks.{closed, member_tasks, placed_tasks, relabelled, shares_of, wraps, Performs};
 ghost use Rattle.merc_par_split.specs.declared.tasks.Task.{Task};
+ghost use Rattle.merc_rights.specs.Groups.{numbered};
 ghost use Rattle.merc_rights.specs.Members.{pass_shares, signal_shares, turn_signal, turn_wait, wait_shares, IsLaid};
 ghost use Rattle.merc_rights.specs.Places.{starts_of, Lies};
 ghost use Rattle.merc_rights.specs.Rights.{right_to};
@@ -24,7 +25,7 @@ use merc_goal_tree::{Symbol, Var, Vars};
 use merc_graded_tree::{BasicGoal, NodeRef, NodeView, Parts, Root, Running, Site};
 use merc_rights::parting::rights;
 use merc_rights::{
-    Awaited, CellInfo, Found, Members, Moved, Occurrences, Parted, Right, Rows, SiteInfo,
+    Awaited, CellInfo, Found, Members, Moved, Occurrences, Parted, Right, Rows, Signals, SiteInfo,
     bound_shares, found_at, listed, part_by_moves, part_by_use, part_by_variable, passed,
     put_moved, put_shares, signals_in_turn, sum, waits_in_turn,
 };
@@ -48,7 +49,7 @@ pub(crate) fn without_rights<'a>(alloc: Global, goal: NodeRef<'a>, first: usize)
         goal,
         first,
         waits: Sequence::new(alloc),
-        signals: Sequence::new(alloc),
+        signals: Signals::none(alloc),
     })
 }
 
@@ -288,7 +289,7 @@ fn leave_signals<'a>(
     ensures tasks { OnOk result (tasks.new ≡ Task.Signals placing.old.signals (span_of placing.old.goal) ∷ (wraps (before + length placing.old.signals) placing.old.goal ++ tasks.old)) }
     ensures left { OnOk result (placing.new ≡ record { goal = placing.old.goal; first = placing.old.first; waits = placing.old.waits; signals = [] }) }
 {
-    let count = placing.signals.as_slice().len();
+    let count = placing.signals.len()?;
     leave_around(alloc, &placing.goal, before, count, tasks)?;
     let signals = placing.take_signals(alloc);
     tasks.push(Task::Signals(signals, placing.goal.span()))
@@ -304,7 +305,7 @@ fn leave_no_signals<'a>(
     ensures { OnOk result (tasks.new ≡ Task.Signals [] (span_of goal.now) ∷ (wraps (before + 0) goal.now ++ tasks.old)) }
 {
     leave_around(alloc, goal, before, 0, tasks)?;
-    tasks.push(Task::Signals(Sequence::new(alloc), goal.span()))
+    tasks.push(Task::Signals(Signals::none(alloc), goal.span()))
 }
 
 // Leaves a goal's waits.
@@ -331,7 +332,7 @@ fn leave_alone<'a>(
     let members = Members::of(alloc, goals, first)?;
     let shares = Shares {
         waits: Rows::none(alloc),
-        signals: Rows::none(alloc),
+        signals: Vec::new(alloc),
         passed: Rows::none(alloc),
     };
     leave_members(alloc, members, shares, tasks)
@@ -364,11 +365,11 @@ fn turn_shares(
 ) -> Result<Shares, NoMemory>
     requires { IsLaid occurrences.now members.now }
     ensures waits { IfOk result (λ shares. (number : ℕ) → row_of number shares.waits ≡ row_of number (flat_map (turn_wait members.now.goals.items) placing.old.waits)) }
-    ensures signals { IfOk result (λ shares. (number : ℕ) → row_of number shares.signals ≡ row_of number (flat_map (turn_signal members.now.goals.items) placing.old.signals)) }
+    ensures signals { IfOk result (λ shares. (number : ℕ) → row_of number (numbered shares.signals.items) ≡ row_of number (flat_map (turn_signal members.now.goals.items) placing.old.signals)) }
     ensures passed { IfOk result (λ shares. shares.passed ≡ []) }
 {
     let signals = placing.take_signals(alloc);
-    let signals = signals_in_turn(alloc, members, signals.as_slice())?;
+    let signals = signals_in_turn(alloc, members, signals)?;
     let waits = waits_in_turn(alloc, occurrences, members, placing.waits.as_slice())?;
     Ok(Shares {
         waits,
@@ -385,7 +386,7 @@ fn leave_arms<'a>(
     goals: Vec<NodeRef<'a>>,
     first: usize,
     waits: &[Awaited],
-    signals: Sequence<Right>,
+    signals: Signals,
     tasks: &mut Tasks<'a>,
 ) -> Result<(), NoMemory>
     requires { Lies (labels_of occurrences.now) first (all_labels goals.items) }
@@ -402,14 +403,14 @@ fn arm_shares(
     occurrences: &Occurrences<'_>,
     members: &Members<'_>,
     waits: &[Awaited],
-    signals: Sequence<Right>,
+    signals: Signals,
 ) -> Result<Shares, NoMemory>
     requires { IsLaid occurrences.now members.now }
     ensures waits { IfOk result (λ shares. (number : ℕ) → row_of number shares.waits ≡ row_of number (flat_map (wait_shares members.now.goals.items) waits.now)) }
-    ensures signals { IfOk result (λ shares. (number : ℕ) → row_of number shares.signals ≡ row_of number (flat_map (signal_shares members.now.goals.items) signals)) }
+    ensures signals { IfOk result (λ shares. (number : ℕ) → row_of number (numbered shares.signals.items) ≡ row_of number (flat_map (signal_shares members.now.goals.items) signals)) }
     ensures passed { IfOk result (λ shares. (number : ℕ) → row_of number shares.passed ≡ row_of number (flat_map (pass_shares members.now.goals.items) waits.now)) }
 {
-    let signals = bound_shares(alloc, members, signals.as_slice())?;
+    let signals = bound_shares(alloc, members, signals)?;
     let waits_of_all = used_shares(alloc, occurrences, members, waits)?;
     let passed = passed(alloc, occurrences, members, waits)?;
     Ok(Shares {
@@ -647,7 +648,7 @@ fn leave_parted<'a>(
     sites: &mut Vec<SiteInfo>,
 ) -> Result<(), NoMemory>
     requires { IsLaid occurrences.now members }
-    ensures { OnOk result ((found : TheFound) × (FindsMoved members.entry.goals.items placing.old parted.now.inside found × ((sites.new.items ≡ sites.old.items ++ record { children = length members.entry.goals.items; cells = found.cells.items; moves = found.moves.items } ∷ []) × (tasks.new ≡ member_tasks members.entry.first (shares_of 0 members.entry.goals.items found.waits.items found.signals.items []) ++ (site_tasks placing.old.goal (length members.entry.goals.items) (length sites.old.items) (length parted.now.before) ++ tasks.old))))) }
+    ensures { OnOk result ((found : TheFound) × (FindsMoved members.entry.goals.items placing.old parted.now.inside found × ((sites.new.items ≡ sites.old.items ++ record { children = length members.entry.goals.items; cells = found.cells.items; moves = found.moves.items } ∷ []) × (tasks.new ≡ member_tasks members.entry.first (shares_of 0 members.entry.goals.items found.waits.items (numbered found.signals.items) []) ++ (site_tasks placing.old.goal (length members.entry.goals.items) (length sites.old.items) (length parted.now.before) ++ tasks.old))))) }
 {
     let inside = parted.inside.as_slice();
     let found = found_with_moved(alloc, occurrences, &members, placing, inside)?;
@@ -666,7 +667,7 @@ fn leave_beside<'a>(
     sites: &mut Vec<SiteInfo>,
 ) -> Result<(), NoMemory>
     requires { members.starts.items ≡ starts_of members.first members.goals.items }
-    ensures tasks { OnOk result (tasks.new ≡ member_tasks members.entry.first (shares_of 0 members.entry.goals.items found.waits.items found.signals.items []) ++ (site_tasks goal.now (length members.entry.goals.items) (length sites.old.items) before ++ tasks.old)) }
+    ensures tasks { OnOk result (tasks.new ≡ member_tasks members.entry.first (shares_of 0 members.entry.goals.items found.waits.items (numbered found.signals.items) []) ++ (site_tasks goal.now (length members.entry.goals.items) (length sites.old.items) before ++ tasks.old)) }
     ensures sites { OnOk result (sites.new.items ≡ sites.old.items ++ record { children = length members.entry.goals.items; cells = found.cells.items; moves = found.moves.items } ∷ []) }
 {
     leave_site(alloc, goal, members.goals.len(), sites.len(), before, tasks)?;
@@ -687,7 +688,7 @@ fn found_with_moved<'a>(
 {
     let signals = placing.take_signals(alloc);
     let outputs = placing.goal.outputs().as_slice();
-    let mut found = found_at(alloc, occurrences, members, outputs, signals.as_slice())?;
+    let mut found = found_at(alloc, occurrences, members, outputs, signals)?;
     put_moved(alloc, occurrences, members, inside, &mut found)?;
     Ok(found)
 }
@@ -745,7 +746,7 @@ fn leave_found<'a>(
     sites: &mut Vec<SiteInfo>,
 ) -> Result<(), NoMemory>
     requires { members.starts.items ≡ starts_of members.first members.goals.items }
-    ensures tasks { OnOk result (tasks.new ≡ member_tasks members.entry.first (shares_of 0 members.entry.goals.items found.waits.items found.signals.items []) ++ tasks.old) }
+    ensures tasks { OnOk result (tasks.new ≡ member_tasks members.entry.first (shares_of 0 members.entry.goals.items found.waits.items (numbered found.signals.items) []) ++ tasks.old) }
     ensures sites { OnOk result (sites.new.items ≡ sites.old.items ++ record { children = length members.entry.goals.items; cells = found.cells.items; moves = found.moves.items } ∷ []) }
 {
     let Found {
@@ -757,7 +758,7 @@ fn leave_found<'a>(
     put_site(members.goals.len(), cells, moves, sites)?;
     let shares = Shares {
         waits: Rows::of(waits)?,
-        signals: Rows::of(signals)?,
+        signals,
         passed: Rows::none(alloc),
     };
     leave_members(alloc, members, shares, tasks)

@@ -13,7 +13,7 @@ use crate::placing::{enter, place, without_rights};
 use crate::tasks::{Task, Tasks};
 use merc_base::{Category, NoMemory, Sequence, Span};
 use merc_graded_tree::{BasicGoal, Label, NodeRef, Nodes, Root};
-use merc_rights::{Occurrences, Right, SiteInfo};
+use merc_rights::{Occurrences, Right, Signals, SiteInfo};
 use std::alloc::Global;
 
 /// Puts the split tree of a goal behind the others, and its sites behind the others. The parallel conjunctions of the goal
@@ -84,7 +84,7 @@ fn perform<'a>(
         Task::Place(placing) => place(alloc, placing, tasks),
         Task::Enter(placing) => enter(alloc, occurrences, placing, tasks, sites),
         Task::Waits(rights, span) => put_waits(alloc, rights.as_slice(), span, nodes),
-        Task::Signals(rights, span) => put_signals(alloc, rights.as_slice(), span, nodes),
+        Task::Signals(signals, span) => put_signals(alloc, signals, span, nodes),
         Task::Close(label) => nodes.put(label),
     }
 }
@@ -103,13 +103,14 @@ fn put_waits(alloc: Global, rights: &[Right], span: Span, nodes: &mut Nodes) -> 
 // Puts signals behind the others.
 fn put_signals(
     alloc: Global,
-    rights: &[Right],
+    signals: Signals,
     span: Span,
     nodes: &mut Nodes,
 ) -> Result<(), NoMemory>
-    ensures { OnOk result (nodes.new ≡ nodes.old ++ map (signal_at span) rights.now) }
+    ensures { OnOk result (nodes.new ≡ nodes.old ++ map (signal_at span) signals) }
 {
-    for right in rights {
+    let rights = signals.listed(alloc)?;
+    for right in rights.as_slice() {
         let goal = BasicGoal::Signal(right.variable, right.conjunct);
         put_basic(alloc, goal, span, nodes)?;
     }

@@ -5,7 +5,7 @@ ghost use Rattle.merc_par_split.specs.Tasks.{passing, relabelled, wraps};
 
 use merc_base::{NoMemory, Sequence, Span};
 use merc_graded_tree::{Label, NodeRef, Root, Running};
-use merc_rights::{Awaited, Right, sum};
+use merc_rights::{Awaited, Right, Signals, sum};
 use std::alloc::Global;
 use std::marker::Model;
 use std::mem;
@@ -19,16 +19,16 @@ pub(crate) struct Placing<'a> {
     /// Each for a variable that the goal uses.
     pub(crate) waits: Sequence<Awaited>,
     /// Each for a variable that the goal binds.
-    pub(crate) signals: Sequence<Right>,
+    pub(crate) signals: Signals,
 }
 
 impl<'a> Placing<'a> {
     /// Takes the rights to signal. None are left.
-    pub(crate) fn take_signals(&mut self, alloc: Global) -> Sequence<Right>
+    pub(crate) fn take_signals(&mut self, alloc: Global) -> Signals
         ensures taken { result ≡ self.old.signals }
         ensures left { self.new ≡ record { goal = self.old.goal; first = self.old.first; waits = self.old.waits; signals = [] } }
     {
-        mem::replace(&mut self.signals, Sequence::new(alloc))
+        mem::replace(&mut self.signals, Signals::none(alloc))
     }
 
     /// Takes the rights to wait. None are left.
@@ -50,7 +50,7 @@ pub(crate) enum Task<'a> {
     /// To put waits behind the others.
     Waits(Sequence<Right>, Span),
     /// To put signals behind the others.
-    Signals(Sequence<Right>, Span),
+    Signals(Signals, Span),
     /// To make the last goals, as many as the root says, one goal that has this label.
     Close(Label),
 }

@@ -1,9 +1,9 @@
 pub mod Rights
 pub mod RightsExamples
-pub mod Ranks
 pub mod Rows
 pub mod Uses
 pub mod RowsExamples
+pub mod Groups
 pub mod Waits
 pub mod WaitsExamples
 pub mod Places

@@ -7,6 +7,7 @@ use Rattle.merc_graded_tree.specs.Labels.{labels_of, all_labels}
 use Rattle.merc_graded_tree.specs.Variables.{among, in_node}
 use Rattle.merc_rights.specs.Rights.{Right, right_to, with_rights}
 use Rattle.merc_rights.specs.Rows.{row_of, next_from, numbers_from, each_from}
+use Rattle.merc_rights.specs.Groups.{numbered, numbered_with}
 use Rattle.merc_rights.specs.Waits.{fresh}
 use Rattle.merc_rights.specs.Places.{Lies, starts_of}
 use Rattle.merc_rights.specs.declared.conjuncts.Found.{Found}
@@ -89,30 +90,37 @@ moves_at moved producer variable = moves_if (row_of variable moved) producer var
 abbrev pub move_of : ℕ × Awaited → Moved
 move_of pair = record { variable = pair.1.right.variable; child = suc pair.0; signal = false }
 
--- what is found at an `&` is put behind what was
-pub record Adds (old new : Found) (cells : List CellInfo) (moves : List Moved) (waits : List (ℕ × Awaited)) (signals : List (ℕ × Right)) : Type 0 where
+-- what is found at an `&` is put behind what was, where these rights to signal move in by their variables
+pub record Adds (moved : List (ℕ × Right)) (old new : Found) (cells : List CellInfo) (moves : List Moved) (waits : List (ℕ × Awaited)) (signals : List (ℕ × Right)) : Type 0 where
   pub more_cells : new.cells.items ≡ old.cells.items ++ cells
   pub more_moves : new.moves.items ≡ old.moves.items ++ moves
   pub more_waits : new.waits.items ≡ old.waits.items ++ waits
-  pub more_signals : new.signals.items ≡ old.signals.items ++ signals
+  pub more_signals : numbered_with moved new.signals.items ≡ numbered_with moved old.signals.items ++ signals
 
 -- .. for a variable that a conjunct binds, for those of a list, and for those of conjuncts from a number on
 module _ (goals : List Node) (outputs : List ℕ) (moved : List (ℕ × Right)) where
   abbrev pub AddsVariable : ℕ → ℕ → Found → Found → Type 0
   AddsVariable producer variable old new =
-      Adds old new (cells_at goals outputs producer variable) (moves_at moved producer variable) (waits_at goals producer variable) (signals_at goals outputs moved producer variable)
+      Adds moved old new (cells_at goals outputs producer variable) (moves_at moved producer variable) (waits_at goals producer variable) (signals_at goals outputs moved producer variable)
 
   abbrev pub AddsVariables : ℕ → List ℕ → Found → Found → Type 0
   AddsVariables producer variables old new =
-      Adds old new (flat_map (cells_at goals outputs producer) variables) (flat_map (moves_at moved producer) variables)
+      Adds moved old new (flat_map (cells_at goals outputs producer) variables) (flat_map (moves_at moved producer) variables)
       (flat_map (waits_at goals producer) variables) (flat_map (signals_at goals outputs moved producer) variables)
 
   abbrev pub AddsFrom : ℕ → List Node → Found → Found → Type 0
   AddsFrom number rest old new =
-      Adds old new (each_from (λ n goal. flat_map (cells_at goals outputs n) (outputs_of goal)) number rest)
+      Adds moved old new (each_from (λ n goal. flat_map (cells_at goals outputs n) (outputs_of goal)) number rest)
       (each_from (λ n goal. flat_map (moves_at moved n) (outputs_of goal)) number rest)
       (each_from (λ n goal. flat_map (waits_at goals n) (outputs_of goal)) number rest)
       (each_from (λ n goal. flat_map (signals_at goals outputs moved n) (outputs_of goal)) number rest)
+
+-- all that is found before these rights to signal move in
+pub record FindsWith (goals : List Node) (outputs : List ℕ) (moved : List (ℕ × Right)) (found : Found) : Type 0 where
+  pub are_cells : found.cells.items ≡ each_from (λ n goal. flat_map (cells_at goals outputs n) (outputs_of goal)) 0 goals
+  pub are_moves : found.moves.items ≡ each_from (λ n goal. flat_map (moves_at moved n) (outputs_of goal)) 0 goals
+  pub are_waits : found.waits.items ≡ each_from (λ n goal. flat_map (waits_at goals n) (outputs_of goal)) 0 goals
+  pub are_signals : numbered_with moved found.signals.items ≡ each_from (λ n goal. flat_map (signals_at goals outputs moved n) (outputs_of goal)) 0 goals
 
 -- all that is found, where these rights to signal move in
 pub record Finds (goals : List Node) (outputs : List ℕ) (signals : List Right) (found : Found) : Type 0 where
@@ -121,4 +129,4 @@ pub record Finds (goals : List Node) (outputs : List ℕ) (signals : List Right)
   pub are_cells : found.cells.items ≡ each_from (λ n goal. flat_map (cells_at goals outputs n) (outputs_of goal)) 0 goals
   pub are_moves : found.moves.items ≡ each_from (λ n goal. flat_map (moves_at moved n) (outputs_of goal)) 0 goals
   pub are_waits : found.waits.items ≡ each_from (λ n goal. flat_map (waits_at goals n) (outputs_of goal)) 0 goals
-  pub are_signals : found.signals.items ≡ each_from (λ n goal. flat_map (signals_at goals outputs moved n) (outputs_of goal)) 0 goals
+  pub are_signals : numbered found.signals.items ≡ each_from (λ n goal. flat_map (signals_at goals outputs moved n) (outputs_of goal)) 0 goals

@@ -10,6 +10,7 @@ use Rattle.merc_rights.specs.declared.conjuncts.Found.{Found}
 use Rattle.merc_rights.specs.declared.members.Members.{Members}
 use Rattle.merc_rights.specs.declared.rights.Awaited.{Awaited}
 use Rattle.merc_rights.specs.declared.sites.CellInfo.{CellInfo}
+use Rattle.merc_rights.specs.Groups.{numbered}
 use Rattle.merc_rights.specs.Members.{count_of, turn_wait, turn_signal, wait_shares, signal_shares, pass_shares, consumers_behind, cells_at, waits_at, signals_at, moves_at, move_of, Adds, Finds, IsLaid}
 use Rattle.merc_rights.specs.Waits.{fresh}
 use Rattle.merc_rights.specs.Rights.{Right, right_to}
@@ -103,7 +104,7 @@ move_of-example = refl
 
 Adds-example : (old new : Found) → old.cells.items ≡ [] → new.cells.items ≡ cell ∷ [] → new.moves.items ≡ old.moves.items ++ []
     → new.waits.items ≡ old.waits.items ++ []
-    → new.signals.items ≡ old.signals.items ++ [] → Adds old new (cell ∷ []) [] [] []
+    → numbered new.signals.items ≡ numbered old.signals.items ++ [] → Adds [] old new (cell ∷ []) [] [] []
 Adds-example old new none one moves waits signals =
     record { more_cells = one ∙ sym (ap (λ cells. cells ++ cell ∷ []) none); more_moves = moves; more_waits = waits; more_signals = signals }
 
@@ -111,10 +112,10 @@ ends_with_one : (cells : List CellInfo) → [] ≡ cells ++ cell ∷ [] → ⊥
 ends_with_one [] none = cc
 ends_with_one (first ∷ rest) none = cc
 
-Adds-not : (old new : Found) → new.cells.items ≡ [] → Adds old new (cell ∷ []) [] [] [] → ⊥
+Adds-not : (old new : Found) → new.cells.items ≡ [] → Adds [] old new (cell ∷ []) [] [] [] → ⊥
 Adds-not old new none adds = ends_with_one old.cells.items (sym none ∙ adds.more_cells)
 
-Finds-example : (found : Found) → found.cells.items ≡ [] → found.moves.items ≡ [] → found.waits.items ≡ [] → found.signals.items ≡ []
+Finds-example : (found : Found) → found.cells.items ≡ [] → found.moves.items ≡ [] → found.waits.items ≡ [] → numbered found.signals.items ≡ []
     → Finds (tests ∷ tests ∷ []) [] [] found
 Finds-example found cells moves waits signals =
     record { moved = []; by_variable = λ variable. refl; are_cells = cells; are_moves = moves; are_waits = waits; are_signals = signals }

@@ -1,15 +1,11 @@
--- Worked examples of items by number, of rights in order and of the variables of parts.
+-- Worked examples of items by number and of the variables of parts.
 use Rattle.std.specs.Prelude.{◌≡◌, ◌==◌, ℕ, true, false, List, [], ◌∷◌, ◌++◌, length, Some, None, refl}
-use Rattle.std.specs.List.{AllByRecursion}
-use Rattle.std.proofs.Common.{sym, subst}
 use Rattle.merc_base.specs.declared.category.Category.TheVariants.{Det}
 use Rattle.merc_base.specs.declared.place.Span.{Span}
 use Rattle.merc_graded_tree.specs.declared.basic.BasicGoal.TheVariants.{Assign, Test}
 use Rattle.merc_graded_tree.specs.declared.entries.Root.TheVariants.{Switch as SwitchRoot, Conjunction as ConjunctionRoot}
 use Rattle.merc_graded_tree.specs.declared.entries.Running.TheVariants.{Sequential}
 use Rattle.merc_graded_tree.specs.Nodes.{Node, node, Basic, Conjunction, nodes_of}
-use Rattle.merc_rights.specs.Ranks.{Rise, FitsAt}
-use Rattle.merc_rights.specs.Rights.{Right, right_to, is_sooner}
 use Rattle.merc_rights.specs.Rows.{row_of, next_from, numbers_from, each_from, pairs_from, Tells}
 use Rattle.merc_rights.specs.Uses.{uses, uses_of}
 
@@ -59,35 +55,6 @@ Tells-example variable = refl
 
 Tells-not : Tells ((7, 1) ∷ []) ((7 ∷ []) ∷ []) → ⊥
 Tells-not tells = let wrong : ◌≡◌ {A = List ℕ} (1 ∷ []) (0 ∷ []) = tells 7 in cc
-
--- 0 is the last of the conjuncts
-
-Rise-example : Rise (right_to 2 1 ∷ right_to 0 1 ∷ [])
-Rise-example = ((refl, tt), (tt, tt))
-
-Rise-not : Rise (right_to 0 1 ∷ right_to 2 1 ∷ []) → ⊥
-Rise-not rise = let wrong : true ≡ false = rise.0.0 in cc
-
--- a place that is not behind those which are sooner
-
-not_before : (front back : List Right) → right_to 2 1 ∷ [] ≡ front ++ back → length front ≡ 0
-    → AllByRecursion (λ right. is_sooner 3 right.conjunct ≡ true) back → ⊥
-not_before [] back are count later =
-    let all : AllByRecursion (λ right. is_sooner 3 right.conjunct ≡ true) (right_to 2 1 ∷ []) = subst (λ rights. AllByRecursion (λ right. is_sooner 3 right.conjunct ≡ true) rights) (sym are) later in
-    let wrong : false ≡ true = all.0 in cc
-not_before (first ∷ rest) back are count later = cc
-
-FitsAt-not : FitsAt 3 (right_to 2 1 ∷ []) 0 → ⊥
-FitsAt-not fits = not_before fits.front fits.back fits.are fits.count fits.later
-
--- the last of one right
-sooner_last : (before : List Right) (last : Right) → right_to 2 1 ∷ [] ≡ before ++ last ∷ [] → is_sooner 3 last.conjunct ≡ false
-sooner_last [] last same = let is : right_to 2 1 ≡ last = cc in subst (λ right. is_sooner 3 right.conjunct ≡ false) is refl
-sooner_last (first ∷ []) last same = absurd cc
-sooner_last (first ∷ second ∷ rest) last same = absurd cc
-
-FitsAt-example : FitsAt 3 (right_to 2 1 ∷ right_to 4 1 ∷ []) 1
-FitsAt-example = record { front = right_to 2 1 ∷ []; back = right_to 4 1 ∷ []; are = refl; count = refl; later = (refl, tt); sooner = sooner_last }
 
 -- the variables of a part by itself, and those of all parts, inner ones first
 

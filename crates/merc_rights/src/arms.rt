@@ -1,15 +1,18 @@
 //! Rights that go to each of the goals which use their variable, or bind it.
 ghost use Rattle.std.specs.Prelude.{◌≡◌, ◌<◌, ◌++◌, ℕ, List, [], ◌∷◌, length, slice_index_or, map, IfOk, OnOk, if◌then◌else◌};
 ghost use Rattle.std.specs.List.{flat_map};
-ghost use Rattle.merc_graded_tree.specs.Variables.{in_node};
-ghost use Rattle.merc_rights.specs.Members.{binds_it, pass_shares, signal_shares, spared, wait_shares, IsLaid};
+ghost use Rattle.merc_graded_tree.specs.Variables.{among, in_node};
+ghost use Rattle.merc_rights.specs.Groups.{numbered, rights_in, shares_in};
+ghost use Rattle.merc_rights.specs.Members.{pass_shares, signal_shares, spared, wait_shares, IsLaid};
 ghost use Rattle.merc_rights.specs.Rows.{numbers_from, row_of, Tells};
-ghost use Rattle.merc_graded_tree.specs.Nodes.{Node, outputs_of};
+ghost use Rattle.merc_graded_tree.specs.Nodes.{Node};
 
+use crate::groups::{Group, NumberedGroup, put_group};
 use crate::members::{Members, binders};
 use crate::occurrences::{Index, Occurrences};
 use crate::rights::{Awaited, Right};
 use crate::rows::Rows;
+use crate::signals::Signals;
 use crate::sums::sum;
 use merc_base::NoMemory;
 use merc_goal_tree::Var;
@@ -157,28 +160,77 @@ fn put_unless(spared: bool, number: usize, numbers: &mut Vec<usize>) -> Result<(
 pub fn bound_shares(
     alloc: Global,
     members: &Members<'_>,
-    signals: &[Right],
-) -> Result<Rows<Right>, NoMemory>
-    ensures { IfOk result (λ rows. (number : ℕ) → row_of number rows ≡ row_of number (flat_map (signal_shares members.now.goals.items) signals.now)) }
+    signals: Signals,
+) -> Result<Vec<NumberedGroup>, NoMemory>
+    ensures { IfOk result (λ shares. (number : ℕ) → row_of number (numbered shares.items) ≡ row_of number (flat_map (signal_shares members.now.goals.items) signals)) }
 {
     let binders = binders(alloc, &members.goals)?;
-    let mut found = Vec::new(alloc);
-    for right in signals {
-        let numbers = bound_by(alloc, &binders, right.variable)?;
-        put_right_share(right, &numbers, &mut found)?;
-    }
-    Rows::of(found)
+    spread_all(alloc, &binders, signals)
 }
 
-// The goals that bind a variable.
-fn bound_by(alloc: Global, binders: &Index, variable: Var) -> Result<Vec<usize>, NoMemory>
-    ensures { IfOk result (λ numbers. (goals : List Node) → Tells binders.now (map outputs_of goals) → numbers.items ≡ numbers_from (binds_it variable) 0 0 goals) }
+/// Each right to signal, by the numbers of all lists that hold its variable. Rights that go to one list are moved.
+///
+/// # Errors
+///
+/// `NoMemory` where memory was refused.
+pub fn spread_all(
+    alloc: Global,
+    holders: &Index,
+    signals: Signals,
+) -> Result<Vec<NumberedGroup>, NoMemory>
+    ensures { IfOk result (λ shares. (lists : List (List ℕ)) → Tells holders.now lists → (number : ℕ) → row_of number (numbered shares.items) ≡ row_of number (flat_map (shares_in lists) signals)) }
+{
+    let mut found = Vec::new(alloc);
+    for group in signals.into_groups() {
+        let numbers = held_by(alloc, holders, group.variable)?;
+        spread(alloc, group, numbers, &mut found)?;
+    }
+    Ok(found)
+}
+
+// Puts a group for each of these numbers: the last one has the group itself.
+fn spread(
+    alloc: Global,
+    group: Group,
+    numbers: Vec<usize>,
+    found: &mut Vec<NumberedGroup>,
+) -> Result<(), NoMemory>
+    ensures { OnOk result (numbered found.new.items ≡ numbered found.old.items ++ flat_map (λ number. map (λ right. (number, right)) (rights_in group)) numbers.items) }
+{
+    let mut numbers = numbers;
+    match numbers.pop() {
+        Some(number) => {
+            put_copies(alloc, &group, &numbers, found)?;
+            put_group(number, group, found)
+        }
+        None => Ok(()),
+    }
+}
+
+// Puts a copy of a group for each of these numbers.
+fn put_copies(
+    alloc: Global,
+    group: &Group,
+    numbers: &[usize],
+    found: &mut Vec<NumberedGroup>,
+) -> Result<(), NoMemory>
+    ensures { OnOk result (numbered found.new.items ≡ numbered found.old.items ++ flat_map (λ number. map (λ right. (number, right)) (rights_in group.now)) numbers.now) }
+{
+    for number in numbers {
+        put_group(*number, group.try_clone(alloc)?, found)?;
+    }
+    Ok(())
+}
+
+// The lists that hold a variable.
+fn held_by(alloc: Global, holders: &Index, variable: Var) -> Result<Vec<usize>, NoMemory>
+    ensures { IfOk result (λ numbers. (lists : List (List ℕ)) → Tells holders.now lists → numbers.items ≡ numbers_from (λ list. among list variable) 0 0 lists) }
 {
     let mut numbers = Vec::new(alloc);
     let mut next = 0;
-    while let Some(binder) = binders.next(variable, next) {
-        numbers.push(binder)?;
-        next = sum(binder, 1)?;
+    while let Some(holder) = holders.next(variable, next) {
+        numbers.push(holder)?;
+        next = sum(holder, 1)?;
     }
     Ok(numbers)
 }

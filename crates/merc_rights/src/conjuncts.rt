@@ -1,34 +1,36 @@
 //! The conjuncts of an `&`: what each waits for and signals, the cells between them, and the rights that move into them.
-ghost use Rattle.std.specs.Prelude.{◌≡◌, ◌<◌, ◌++◌, ℕ, suc, List, [], ◌∷◌, map, length, slice_index_or, IfOk, OnOk, if◌then◌else◌};
+ghost use Rattle.std.specs.Prelude.{◌≡◌, ◌<◌, ◌++◌, ℕ, suc, List, [], ◌∷◌, map, length, slice_index_or, IfOk, OnOk, if◌then◌else◌, true};
 ghost use Rattle.std.specs.List.{flat_map};
+ghost use Rattle.std.specs.List.Sorted.{IsNonDecreasingBy};
 ghost use Rattle.merc_graded_tree.specs.Nodes.{Node, outputs_of};
-ghost use Rattle.merc_rights.specs.Members.{move_of, wait_shares, Adds, AddsVariable, AddsVariables, Finds, IsLaid};
+ghost use Rattle.merc_rights.specs.Groups.{by_variable, held_in, held_variables, numbered, numbered_with, AreAt, AreHeld};
+ghost use Rattle.merc_rights.specs.Members.{move_of, wait_shares, Adds, AddsVariable, AddsVariables, Finds, FindsWith, IsLaid};
 ghost use Rattle.merc_rights.specs.Waits.{fresh};
-ghost use Rattle.merc_rights.specs.Rights.{right_to, with_rights};
-ghost use Rattle.merc_rights.specs.Ranks.{Rise};
-ghost use Rattle.merc_rights.specs.Rows.{row_of, Tells};
+ghost use Rattle.merc_rights.specs.Rights.{right_to, Right as MeantRight};
+ghost use Rattle.merc_rights.specs.Rows.{Tells};
 
-use crate::arms::put_shares;
+use crate::arms::{put_shares, spread_all};
+use crate::groups::{Group, NumberedGroup, put_group};
 use crate::members::Members;
-use crate::occurrences::{Index, Occurrences, put_all};
-use crate::rights::{Awaited, Right, put_right};
-use crate::rows::Rows;
+use crate::occurrences::{Index, Occurrences, put, put_all};
+use crate::rights::{Awaited, Right};
+use crate::signals::{Signals, by_number, take_row, with_others};
 use crate::sites::{CellInfo, Moved};
 use crate::sums::sum;
 use merc_base::NoMemory;
 use merc_goal_tree::Var;
 use std::alloc::Global;
 
-/// What is found at an `&`. Conjuncts are numbered from 0 where they come first in a pair, and else from 1.
+/// What is found at an `&`. Conjuncts are numbered from 0 where they come with groups or first in a pair, and else from 1.
 #[derive(Drop)]
 pub struct Found {
     pub cells: Vec<CellInfo>,
     pub moves: Vec<Moved>,
     pub waits: Vec<(usize, Awaited)>,
-    pub signals: Vec<(usize, Right)>,
+    pub signals: Vec<NumberedGroup>,
 }
 
-/// What the variables give that conjuncts bind.
+/// What the variables give that conjuncts bind, where these rights to signal move in.
 ///
 /// # Errors
 ///
@@ -38,13 +40,39 @@ pub fn found_at(
     occurrences: &Occurrences<'_>,
     members: &Members<'_>,
     outputs: &[Var],
-    signals: &[Right],
+    signals: Signals,
 ) -> Result<Found, NoMemory>
     requires { IsLaid occurrences.now members.now }
-    ensures { IfOk result (λ found. Finds members.now.goals.items outputs.now signals.now found) }
+    ensures { IfOk result (λ found. Finds members.now.goals.items outputs.now signals found) }
+{
+    let held = set_of_held(alloc, signals.groups())?;
+    let found = found_without(alloc, occurrences, members, outputs, &held)?;
+    let Found {
+        cells,
+        moves,
+        waits,
+        signals: own,
+    } = found;
+    Ok(Found {
+        cells,
+        moves,
+        waits,
+        signals: with_moved(alloc, own, signals)?,
+    })
+}
+
+// What the variables give that conjuncts bind, without the rights to signal that move in.
+fn found_without(
+    alloc: Global,
+    occurrences: &Occurrences<'_>,
+    members: &Members<'_>,
+    outputs: &[Var],
+    held: &Index,
+) -> Result<Found, NoMemory>
+    requires { IsLaid occurrences.now members.now }
+    ensures { IfOk result (λ found. (variables : List ℕ) → Tells held.now (variables ∷ []) → (moved : List (ℕ × MeantRight)) → AreHeld variables moved → FindsWith members.now.goals.items outputs.now moved found) }
 {
     let outputs = set_of(alloc, outputs)?;
-    let moved = by_variable(alloc, signals)?;
     let mut found = Found {
         cells: Vec::new(alloc),
         moves: Vec::new(alloc),
@@ -57,7 +85,7 @@ pub fn found_at(
             occurrences,
             members,
             &outputs,
-            &moved,
+            held,
             producer,
             &mut found,
         )?;
@@ -74,15 +102,25 @@ fn set_of(alloc: Global, variables: &[Var]) -> Result<Index, NoMemory>
     Index::of(pairs)
 }
 
-// Rights by variable.
-fn by_variable(alloc: Global, rights: &[Right]) -> Result<Rows<Right>, NoMemory>
-    ensures { IfOk result (λ rows. (variable : ℕ) → row_of variable rows ≡ row_of variable (map (λ right. (right.variable, right)) rights.now)) }
+// The variables of groups that have rights, to be asked for.
+fn set_of_held(alloc: Global, groups: &[Group]) -> Result<Index, NoMemory>
+    ensures { IfOk result (λ set. Tells set (held_variables groups.now ∷ [])) }
 {
     let mut pairs = Vec::new(alloc);
-    for right in rights {
-        pairs.push((right.variable.number(), *right))?;
+    for group in groups {
+        put_held(group, &mut pairs)?;
     }
-    Rows::of(pairs)
+    Index::of(pairs)
+}
+
+// Puts the variable of a group that has rights.
+fn put_held(group: &Group, pairs: &mut Vec<(usize, usize)>) -> Result<(), NoMemory>
+    ensures { OnOk result (pairs.new.items ≡ pairs.old.items ++ map (λ variable. (variable, 0)) (held_in group.now)) }
+{
+    if group.conjuncts.is_empty() {
+        return Ok(());
+    }
+    put(group.variable, 0, pairs)
 }
 
 // Puts what the variables give that a conjunct binds.
@@ -91,13 +129,13 @@ fn put_producer(
     occurrences: &Occurrences<'_>,
     members: &Members<'_>,
     outputs: &Index,
-    moved: &Rows<Right>,
+    held: &Index,
     producer: usize,
     found: &mut Found,
 ) -> Result<(), NoMemory>
     requires laid { IsLaid occurrences.now members.now }
     requires within { producer < length members.now.goals.items }
-    ensures { OnOk result ((list : List ℕ) → Tells outputs.now (list ∷ []) → (d : Node) → AddsVariables members.now.goals.items list moved.now producer (outputs_of (slice_index_or members.now.goals.items producer d)) found.old found.new) }
+    ensures { OnOk result ((list variables : List ℕ) → Tells outputs.now (list ∷ []) → Tells held.now (variables ∷ []) → (moved : List (ℕ × MeantRight)) → AreHeld variables moved → (d : Node) → AddsVariables members.now.goals.items list moved producer (outputs_of (slice_index_or members.now.goals.items producer d)) found.old found.new) }
 {
     for variable in members.goals[producer].outputs().as_slice() {
         put_variable(
@@ -105,7 +143,7 @@ fn put_producer(
             occurrences,
             members,
             outputs,
-            moved,
+            held,
             producer,
             *variable,
             found,
@@ -120,26 +158,41 @@ fn put_variable(
     occurrences: &Occurrences<'_>,
     members: &Members<'_>,
     outputs: &Index,
-    moved: &Rows<Right>,
+    held: &Index,
     producer: usize,
     variable: Var,
     found: &mut Found,
 ) -> Result<(), NoMemory>
     requires { IsLaid occurrences.now members.now }
-    ensures { OnOk result ((list : List ℕ) → Tells outputs.now (list ∷ []) → AddsVariable members.now.goals.items list moved.now producer variable found.old found.new) }
+    ensures { OnOk result ((list variables : List ℕ) → Tells outputs.now (list ∷ []) → Tells held.now (variables ∷ []) → (moved : List (ℕ × MeantRight)) → AreHeld variables moved → AddsVariable members.now.goals.items list moved producer variable found.old found.new) }
 {
     let child = sum(producer, 1)?;
     let users = members.users(alloc, occurrences, variable, child)?;
     let consumers = consumers(alloc, &users, outputs.next(variable, 0).is_some())?;
-    let group = moved.row(variable.number());
-    let own = own_signals(alloc, variable, &consumers, group)?;
     put_cells(variable, child, &consumers, &mut found.cells)?;
     put_waits(variable, &users, &mut found.waits)?;
-    put_signals(producer, &own, &mut found.signals)?;
-    if group.is_empty() {
+    let is_held = held.next(variable, 0).is_some();
+    put_move(is_held, variable, child, &mut found.moves)?;
+    let group = Group {
+        variable,
+        conjuncts: consumers,
+    };
+    put_group(producer, group, &mut found.signals)
+}
+
+// Puts what tells of rights to signal that move in where there are such.
+fn put_move(
+    is_held: bool,
+    variable: Var,
+    child: usize,
+    moves: &mut Vec<Moved>,
+) -> Result<(), NoMemory>
+    ensures { OnOk result (moves.new.items ≡ moves.old.items ++ (if is_held then record { variable = variable; child = child; signal = true } ∷ [] else [])) }
+{
+    if !is_held {
         return Ok(());
     }
-    found.moves.push(Moved {
+    moves.push(Moved {
         variable,
         child,
         signal: true,
@@ -159,37 +212,6 @@ fn consumers(alloc: Global, users: &[usize], behind: bool) -> Result<Vec<usize>,
         consumers.push(0)?;
     }
     Ok(consumers)
-}
-
-// The rights of a conjunct to signal a variable to these, and those that move in.
-fn own_signals(
-    alloc: Global,
-    variable: Var,
-    consumers: &[usize],
-    group: &[(usize, Right)],
-) -> Result<Vec<Right>, NoMemory>
-    requires { Rise (map (λ conjunct. right_to conjunct variable) consumers.now) }
-    ensures { IfOk result (λ own. own.items ≡ with_rights (map (λ item. item.1) group.now) (map (λ conjunct. right_to conjunct variable) consumers.now)) }
-{
-    let mut own = rights_to(alloc, variable, consumers)?;
-    for item in group {
-        put_right(item.1, &mut own)?;
-    }
-    Ok(own)
-}
-
-// Rights for a variable.
-fn rights_to(alloc: Global, variable: Var, consumers: &[usize]) -> Result<Vec<Right>, NoMemory>
-    ensures { IfOk result (λ rights. rights.items ≡ map (λ conjunct. right_to conjunct variable) consumers.now) }
-{
-    let mut rights = Vec::new(alloc);
-    for conjunct in consumers {
-        rights.push(Right {
-            variable,
-            conjunct: *conjunct,
-        })?;
-    }
-    Ok(rights)
 }
 
 // Puts the cells of a variable behind the others.
@@ -235,18 +257,51 @@ fn put_waits(
     Ok(())
 }
 
-// Puts the rights of a conjunct to signal behind the others.
-fn put_signals(
-    producer: usize,
-    own: &[Right],
-    signals: &mut Vec<(usize, Right)>,
-) -> Result<(), NoMemory>
-    ensures { OnOk result (signals.new.items ≡ signals.old.items ++ map (λ right. (producer, right)) own.now) }
+// The groups of conjuncts, with the rights that move in for their variables.
+fn with_moved(
+    alloc: Global,
+    own: Vec<NumberedGroup>,
+    signals: Signals,
+) -> Result<Vec<NumberedGroup>, NoMemory>
+    ensures { IfOk result (λ all. numbered all.items ≡ numbered_with (by_variable signals) own.items) }
 {
-    for right in own {
-        signals.push((producer, *right))?;
+    let places = places(alloc, &own)?;
+    let moved = by_number(spread_all(alloc, &places, signals)?)?;
+    joined(alloc, own, moved)
+}
+
+// Where groups stand, by variable.
+fn places(alloc: Global, groups: &[NumberedGroup]) -> Result<Index, NoMemory>
+    ensures { IfOk result (λ places. Tells places (map (λ item. item.group.variable ∷ []) groups.now)) }
+{
+    let mut pairs = Vec::new(alloc);
+    for (place, item) in groups.iter().enumerate() {
+        put(item.group.variable, place, &mut pairs)?;
     }
-    Ok(())
+    Index::of(pairs)
+}
+
+// Groups, each with the rights by the number of its place.
+fn joined(
+    alloc: Global,
+    own: Vec<NumberedGroup>,
+    moved: Vec<NumberedGroup>,
+) -> Result<Vec<NumberedGroup>, NoMemory>
+    requires { IsNonDecreasingBy (λ item. item.number) moved.items }
+    ensures { IfOk result (λ all. (signals : List MeantRight) → AreAt own.items signals (numbered moved.items) → numbered all.items ≡ numbered_with (by_variable signals) own.items) }
+{
+    let mut left = own;
+    let mut rows = moved;
+    let mut all = Vec::new(alloc);
+    while let Some(item) = left.pop() {
+        let others = take_row(alloc, left.len(), &mut rows)?;
+        all.push(NumberedGroup {
+            number: item.number,
+            group: with_others(item.group, others)?,
+        })?;
+    }
+    all.reverse();
+    Ok(all)
 }
 
 /// Puts rights to wait that move into the conjuncts which use their variables behind what is found.
@@ -262,7 +317,7 @@ pub fn put_moved(
     found: &mut Found,
 ) -> Result<(), NoMemory>
     requires { IsLaid occurrences.now members.now }
-    ensures { OnOk result (Adds found.old found.new [] (map move_of (flat_map (wait_shares members.now.goals.items) inside.now)) (flat_map (wait_shares members.now.goals.items) inside.now) []) }
+    ensures { OnOk result (Adds [] found.old found.new [] (map move_of (flat_map (wait_shares members.now.goals.items) inside.now)) (flat_map (wait_shares members.now.goals.items) inside.now) []) }
 {
     let mut pairs = Vec::new(alloc);
     put_shares(alloc, occurrences, members, inside, &mut pairs)?;
@@ -274,7 +329,7 @@ pub fn put_moved(
 
 // Puts a right to wait that moves into the conjunct of a number.
 fn put_moved_in(pair: &(usize, Awaited), found: &mut Found) -> Result<(), NoMemory>
-    ensures { OnOk result (Adds found.old found.new [] (move_of pair.now ∷ []) (pair.now ∷ []) []) }
+    ensures { OnOk result (Adds [] found.old found.new [] (move_of pair.now ∷ []) (pair.now ∷ []) []) }
 {
     let child = sum(pair.0, 1)?;
     found.moves.push(Moved {

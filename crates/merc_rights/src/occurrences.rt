@@ -16,7 +16,7 @@ use std::marker::Model;
 
 /// Numbers by variable, in order.
 #[derive(Drop)]
-pub(crate) struct Index {
+pub struct Index {
     rows: Rows<usize>,
 }
 
@@ -38,7 +38,7 @@ impl Index {
     /// # Errors
     ///
     /// `NoMemory` where memory was refused.
-    pub(crate) fn of(pairs: Vec<(usize, usize)>) -> Result<Index, NoMemory>
+    pub fn of(pairs: Vec<(usize, usize)>) -> Result<Index, NoMemory>
         requires { (variable : ℕ) → IsNonDecreasing (row_of variable pairs.items) }
         ensures { IfOk result (λ index. (variable : ℕ) → row_of variable index ≡ row_of variable pairs.items) }
     {
@@ -48,7 +48,7 @@ impl Index {
     }
 
     /// The first number of a variable from one on.
-    pub(crate) fn next(&self, variable: Var, from: usize) -> Option<usize>
+    pub fn next(&self, variable: Var, from: usize) -> Option<usize>
         ensures { result ≡ find (nat_le from) (row_of variable self.now) }
     {
         first_from(self.rows.row(variable.number()), from)
@@ -114,7 +114,7 @@ impl<'a> Occurrences<'a> {
     }
 
     /// The first part from an index on that holds the variable.
-    pub(crate) fn first_from(&self, variable: Var, from: usize) -> Option<usize>
+    pub fn first_from(&self, variable: Var, from: usize) -> Option<usize>
         ensures { result ≡ next_from (λ list. among list variable) from 0 (uses_of self.now) }
     {
         self.index.next(variable, from)
@@ -220,7 +220,7 @@ fn put_with_all(
 /// # Errors
 ///
 /// `NoMemory` where memory was refused.
-pub(crate) fn put_all(
+pub fn put_all(
     variables: &[Var],
     number: usize,
     pairs: &mut Vec<(usize, usize)>,
@@ -233,8 +233,12 @@ pub(crate) fn put_all(
     Ok(())
 }
 
-// Puts a variable with a number behind the others.
-fn put(variable: Var, number: usize, pairs: &mut Vec<(usize, usize)>) -> Result<(), NoMemory>
+/// Puts a variable with a number behind the others.
+///
+/// # Errors
+///
+/// `NoMemory` where memory was refused.
+pub fn put(variable: Var, number: usize, pairs: &mut Vec<(usize, usize)>) -> Result<(), NoMemory>
     ensures { OnOk result (pairs.new.items ≡ pairs.old.items ++ (variable, number) ∷ []) }
 {
     pairs.push((variable.number(), number))?;

@@ -1,15 +1,18 @@
 //! Rights that go to the first of goals which come one after the other.
-ghost use Rattle.std.specs.Prelude.{◌≡◌, ℕ, suc, List, map, IfOk};
+ghost use Rattle.std.specs.Prelude.{◌≡◌, ◌++◌, ℕ, suc, List, map, IfOk, OnOk};
 ghost use Rattle.std.specs.List.{flat_map};
 ghost use Rattle.std.specs.Option.{is_some, option_to_list};
 ghost use Rattle.merc_graded_tree.specs.Nodes.{Node, outputs_of};
+ghost use Rattle.merc_rights.specs.Groups.{numbered, rights_in};
 ghost use Rattle.merc_rights.specs.Members.{turn_signal, turn_wait, uses_it, IsLaid};
 ghost use Rattle.merc_rights.specs.Rows.{next_from, row_of, Tells};
 
+use crate::groups::{Group, NumberedGroup, put_group};
 use crate::members::{Members, binders};
 use crate::occurrences::{Index, Occurrences};
-use crate::rights::{Awaited, Right};
+use crate::rights::Awaited;
 use crate::rows::Rows;
+use crate::signals::Signals;
 use merc_base::NoMemory;
 use merc_goal_tree::Var;
 use std::alloc::Global;
@@ -70,32 +73,34 @@ fn turn_of_wait(
 pub fn signals_in_turn(
     alloc: Global,
     members: &Members<'_>,
-    signals: &[Right],
-) -> Result<Rows<Right>, NoMemory>
-    ensures { IfOk result (λ rows. (number : ℕ) → row_of number rows ≡ row_of number (flat_map (turn_signal members.now.goals.items) signals.now)) }
+    signals: Signals,
+) -> Result<Vec<NumberedGroup>, NoMemory>
+    ensures { IfOk result (λ found. numbered found.items ≡ flat_map (turn_signal members.now.goals.items) signals) }
 {
     let binders = binders(alloc, &members.goals)?;
     let mut found = Vec::new(alloc);
-    for right in signals {
-        if let Some(turn) = turn_of_signal(&binders, right) {
-            found.push(turn)?;
-        }
+    for group in signals.into_groups() {
+        put_in_turn(&binders, group, &mut found)?;
     }
-    Rows::of(found)
+    Ok(found)
 }
 
-// The first goal that binds the variable, with the right.
-fn turn_of_signal(binders: &Index, right: &Right) -> Option<(usize, Right)>
-    ensures { (goals : List Node) → Tells binders.now (map outputs_of goals) → option_to_list result ≡ turn_signal goals right.now }
+// Puts a group for the first goal that binds its variable.
+fn put_in_turn(
+    binders: &Index,
+    group: Group,
+    found: &mut Vec<NumberedGroup>,
+) -> Result<(), NoMemory>
+    ensures { OnOk result ((goals : List Node) → Tells binders.now (map outputs_of goals) → numbered found.new.items ≡ numbered found.old.items ++ flat_map (turn_signal goals) (rights_in group)) }
 {
-    match binders.next(right.variable, 0) {
-        Some(binder) => Some((binder, *right)),
-        None => None,
+    match binders.next(group.variable, 0) {
+        Some(number) => put_group(number, group, found),
+        None => Ok(()),
     }
 }
 
 /// Whether a goal behind the one of a number uses the variable.
-pub(crate) fn is_used_behind(
+pub fn is_used_behind(
     occurrences: &Occurrences<'_>,
     members: &Members<'_>,
     variable: Var,

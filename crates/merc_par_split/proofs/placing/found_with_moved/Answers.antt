@@ -12,7 +12,7 @@ returns-clause-found c =
     record {
       own = found;
       finds =
-          subst (λ l. Finds goals (outputs_of c.args.placing.now.goal) l found) (c.as_slice.ensures ∙ c.take_signals-signals.ensures.taken)
-          (subst (λ l. Finds goals l c.as_slice.result.now found) outputs c.in_ok-found.ensures);
+          subst (λ l. Finds goals (outputs_of c.args.placing.now.goal) l found) c.take_signals-signals.ensures.taken
+          (subst (λ l. Finds goals l c.take_signals-signals.result found) outputs c.in_ok-found.ensures);
       adds = c.in_ok-put_moved.ensures;
     }

@@ -1,6 +1,7 @@
 use Rattle.std.proofs.Common.{◌∙◌, ◌++◌, [], ap, length, subst}
 use Rattle.merc_par_split.specs.Constructs.{site_tasks, FindsMoved}
 use Rattle.merc_par_split.specs.Tasks.{member_tasks, shares_of}
+use Rattle.merc_rights.specs.Groups.{numbered}
 use Rattle.merc_par_split.proofs.Leaving.{ok_both}
 use Rattle.merc_par_split.proofs.placing.leave_parted.Goals as goal
 
@@ -10,7 +11,7 @@ returns c =
     let goals = members.goals.items in
     let found = c.in_ok-found.found in
     let number = length c.args.sites.now.items in
-    let front = member_tasks members.first (shares_of 0 goals found.waits.items found.signals.items []) in
+    let front = member_tasks members.first (shares_of 0 goals found.waits.items (numbered found.signals.items) []) in
     let finds : FindsMoved goals c.args.placing.now c.args.parted.now.inside found = subst (λ l. FindsMoved goals c.args.placing.now l found) c.as_slice-inside.ensures c.in_ok-found.ensures.found in
     ok_both c.leave_beside.result _ _ _
     (λ tasks sites. (
