@@ -53,6 +53,12 @@ abbrev pub site_tasks : Node → ℕ → ℕ → ℕ → List Task
 site_tasks whole children number before =
     closed whole (Conjunction (Parallel (Some (record { number = number }))) children) before (Waits (map (right_to 0) (outputs_of whole)) (span_of whole)) (length (outputs_of whole))
 
+-- what is found at an `&` into which these waits move
+pub record FindsMoved (goals : List Node) (placing : Placing) (inside : List Awaited) (found : Found) : Type 0 where
+  pub own : Found
+  pub finds : Finds goals (outputs_of placing.goal) placing.signals own
+  pub adds : Adds [] own found [] (map move_of (flat_map (wait_shares goals) inside)) (flat_map (wait_shares goals) inside) []
+
 -- What is found at an `&` and what moves in is told at the site, and goes to the conjuncts.
 pub record LeavesConjuncts (placing : Placing) (goals : List Node) (sites sites' : List SiteInfo) (tasks tasks' : List Task) : Type 0 where
   pub found : Found

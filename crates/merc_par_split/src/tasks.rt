@@ -8,6 +8,7 @@ use merc_graded_tree::{Label, NodeRef, Root, Running};
 use merc_rights::{Awaited, Right, Signals, sum};
 use std::alloc::Global;
 use std::marker::Model;
+use std::mem;
 
 /// A goal of a conjunct, with its rights.
 #[derive(Drop)]
@@ -19,6 +20,24 @@ pub(crate) struct Placing<'a> {
     pub(crate) waits: Sequence<Awaited>,
     /// Each for a variable that the goal binds.
     pub(crate) signals: Signals,
+}
+
+impl<'a> Placing<'a> {
+    /// Takes the rights to signal. None are left.
+    pub(crate) fn take_signals(&mut self, alloc: Global) -> Signals
+        ensures taken { result ≡ self.old.signals }
+        ensures left { self.new ≡ record { goal = self.old.goal; first = self.old.first; waits = self.old.waits; signals = [] } }
+    {
+        mem::replace(&mut self.signals, Signals::none(alloc))
+    }
+
+    /// Takes the rights to wait. None are left.
+    pub(crate) fn take_waits(&mut self, alloc: Global) -> Sequence<Awaited>
+        ensures taken { result ≡ self.old.waits }
+        ensures left { self.new ≡ record { goal = self.old.goal; first = self.old.first; waits = []; signals = self.old.signals } }
+    {
+        mem::replace(&mut self.waits, Sequence::new(alloc))
+    }
 }
 
 /// One thing to do.

@@ -9,6 +9,6 @@ returns-clause-tasks c =
     let members = c.args.members in
     let found = c.args.found in
     let signals = numbered found.signals.items in
-    ok_weaker c.leave_members-2.result _ _
-    (members_left members.first members.first members.goals.items members.goals.items found.waits.items c.in_ok-waits.waits signals signals [] c.none.result
-    c.args.tasks.now c.leave_members-2.new.tasks refl refl c.in_ok-waits.ensures (λ n. refl) (λ n. ap (λ l. row_of n l) c.none.ensures)) c.leave_members-2.ensures
+    ok_weaker c.leave_members.result _ _
+    (members_left members.first members.first members.goals.items members.goals.items found.waits.items c.in_ok-of.field-0 signals signals [] c.none.result
+    c.args.tasks.now c.leave_members.new.tasks refl refl c.in_ok-of.ensures (λ n. refl) (λ n. ap (λ l. row_of n l) c.none.ensures)) c.leave_members.ensures
