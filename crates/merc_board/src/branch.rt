@@ -57,7 +57,7 @@ pub enum Resumed {
 pub struct Opened<L: Drop, H: Drop, S: Drop> {
     /// The first worker's seat.
     pub home: S,
-    /// The other workers' seats. There is room for one more.
+    /// The other workers' seats.
     pub others: Vec<S>,
     /// The root.
     pub root: Box<Branch<L, H>>,
