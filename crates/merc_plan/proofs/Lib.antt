@@ -14,6 +14,7 @@ pub mod Shown
 pub mod Depths
 pub mod Deep
 pub mod EachForks
+pub mod ScriptForks
 pub mod Gives
 pub mod Forms
 pub mod Givers

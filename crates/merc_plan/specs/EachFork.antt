@@ -7,7 +7,7 @@ use Rattle.merc_meaning.specs.Trace.{Env, Trace, Ends as TraceEnds, Tick, Answer
 use Rattle.merc_meaning.specs.Steps.{value_at}
 use Rattle.merc_meaning.specs.Runs.{Program, all_trace, call_trace}
 use Rattle.merc_script.specs.declared.outcome.Outcome.TheVariants.{Ok as Fine}
-use Rattle.merc_script.specs.Script.{Children, end_of, ends}
+use Rattle.merc_script.specs.Script.{Script, Ends, TickThen, WaitThen, SignalThen, ForkThen, Children, NoChild, Child, end_of, ends}
 use Rattle.merc_script.specs.Joining.{joined}
 use Rattle.merc_core.specs.Rights.{without}
 use Rattle.merc_plan.specs.Branch.{HeldWait, Hold, Fork, BranchCourse, BranchCourses, Over, Breaks, Steps, Finds, Awaits, Gives, Forks, no_branches, more_branches, names}
@@ -41,6 +41,22 @@ module _ (Holds : ℕ → Fork → Children → Type 0) where
         let one = script false left 0 given first in
         EachFork false left given first × ((steps : ℕ) → end_of one ≡ Fine steps → EachForkInTurn left (given ++ signalled one) rest)
 
+-- Given is what may hold of a fork of a script with so many steps left and these children.
+module _ (Holds : ℕ → Children → Type 0) where
+  abbrev mutual
+    -- of each fork that is reached in a script, where its descendants run one after the other
+    pub EachForkOf : Script → Type 0
+    EachForkOf (Ends end) = Unit {0}
+    EachForkOf (TickThen rest) = EachForkOf rest
+    EachForkOf (WaitThen cell rest) = EachForkOf rest
+    EachForkOf (SignalThen cell rest) = EachForkOf rest
+    EachForkOf (ForkThen left cells moves children rest) = Holds left children × (EachForkIn children × EachForkOf rest)
+
+    -- .. in a fork's children: in the first, and where it ends well in the others
+    pub EachForkIn : Children → Type 0
+    EachForkIn NoChild = Unit {0}
+    EachForkIn (Child first others) = EachForkOf first × ((steps : ℕ) → end_of first ≡ Fine steps → EachForkIn others)
+
 -- The value of a variable where a branch forks: it has it, or a conjunct to the left gives it.
 
 abbrev pub value_owed : Option HeldWait → Option Value
@@ -71,3 +87,7 @@ pub record JoinShows (program : Program) (left : ℕ) (fork : Fork) (children : 
   pub depth : ℕ
   pub enough : IsDeepEnough left (all_trace program (call_trace program depth) fork.goals env)
   pub shows : joined left (ends children) ≡ shown_by 0 (cut left (all_trace program (call_trace program depth) fork.goals env))
+
+-- they are those of a fork of which this holds
+abbrev pub JoinsAsFork : Program → ℕ → Children → Type 0
+JoinsAsFork program left children = (fork : Fork) × JoinShows program left fork children

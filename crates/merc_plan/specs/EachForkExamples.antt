@@ -12,12 +12,12 @@ use Rattle.merc_meaning.specs.Steps.{value_at, raised}
 use Rattle.merc_meaning.specs.Runs.{Program}
 use Rattle.merc_meaning.specs.RunExamples.{graded, procedure}
 use Rattle.merc_script.specs.declared.outcome.Outcome.TheVariants.{Ok as Fine, Raise}
-use Rattle.merc_script.specs.Script.{Ends, TickThen, Children, NoChild, Child}
+use Rattle.merc_script.specs.Script.{Script, Ends, TickThen, ForkThen, Children, NoChild, Child}
 use Rattle.merc_plan.specs.Branch.{HeldWait, Hold, Fork, BranchCourse, BranchCourses, Over, Breaks, Steps, Finds, Forks, no_branches, more_branches, Raised}
 use Rattle.merc_plan.specs.Hold.{holding}
 use Rattle.merc_plan.specs.BranchScript.{shown_by}
 use Rattle.merc_plan.specs.PlaysExamples.{one, both_branch, program}
-use Rattle.merc_plan.specs.EachFork.{EachFork, EachForkInTurn, value_owed, value_or, value_before, IsDeepEnough, JoinShows}
+use Rattle.merc_plan.specs.EachFork.{EachFork, EachForkInTurn, EachForkOf, EachForkIn, value_owed, value_or, value_before, IsDeepEnough, JoinShows, JoinsAsFork}
 
 abbrev seven : Value
 seven = Text 7
@@ -172,3 +172,21 @@ right-raised = (tt, λ steps fine. absurd (cc))
 
 right-answers : EachForkInTurn (JoinShows program) 3 [] (more_branches (Finds (holding [] 1) Over) (more_branches broken no_branches)) → ⊥
 right-answers forks = no_step (forks.1 0 refl).0.0.shows
+
+-- Each fork of a script by itself.
+
+abbrev forking : Script
+forking = ForkThen 3 [] [] two_steps (Ends (Fine 2))
+
+calls-forks : EachForkOf (JoinsAsFork calls) forking
+calls-forks = ((two_calls, calls-join), ((tt, λ steps fine. (tt, λ others fine_too. tt)), tt))
+
+calls-forks-not : EachForkOf (λ left children. children ≡ NoChild) (TickThen forking) → ⊥
+calls-forks-not forks = let none = forks.0 in cc
+
+-- in a child to the right of one that ends with an exception, and of one that ends well
+child-raised : EachForkIn (λ left children. ⊥) (Child (Ends (Raise 7 0)) (Child forking NoChild))
+child-raised = (tt, λ steps fine. absurd (cc))
+
+child-fine : EachForkIn (λ left children. ⊥) (Child (Ends (Fine 0)) (Child forking NoChild)) → ⊥
+child-fine forks = (forks.1 0 refl).0.0

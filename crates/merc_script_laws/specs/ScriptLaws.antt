@@ -15,7 +15,7 @@ use Rattle.merc_par_split.specs.Split.{split, all_split}
 use Rattle.merc_par_split.specs.Sites.{all_sites}
 use Rattle.merc_plan.specs.Branches.{Plan, root_branch}
 use Rattle.merc_plan.specs.BranchScript.{root_script, shown_by}
-use Rattle.merc_plan.specs.EachFork.{EachFork, JoinShows}
+use Rattle.merc_plan.specs.EachFork.{EachFork, EachForkOf, JoinShows, JoinsAsFork}
 use Rattle.merc_plan.specs.PlanLists.{plan_of}
 use Rattle.merc_plan.specs.Stands.{Stands}
 
@@ -59,3 +59,7 @@ GoalsStandAtScripts = OfEachGoal (λ found trees tree limit.
 abbrev pub JoinsShowTraces : Type 0
 JoinsShowTraces = OfEachGoal (λ found trees tree limit.
     EachFork (JoinShows (program_with found.preds trees)) true limit [] (root_branch (split_plan trees tree) (split_program found.preds trees) (suc limit) (split_goal trees tree)))
+
+-- .. and each fork that is reached in its script is one of these.
+abbrev pub ScriptsJoin : Type 0
+ScriptsJoin = OfEachGoal (λ found trees tree limit. EachForkOf (JoinsAsFork (program_with found.preds trees)) (goal_script found.preds trees tree limit))

@@ -1,5 +1,5 @@
 //! Laws of the scripts of accepted goals.
-ghost use Rattle.merc_script_laws.specs.ScriptLaws.{GoalsStandAtScripts, JoinsShowTraces, ScriptsAreWellFormed, ScriptsShowRuns};
+ghost use Rattle.merc_script_laws.specs.ScriptLaws.{GoalsStandAtScripts, JoinsShowTraces, ScriptsAreWellFormed, ScriptsJoin, ScriptsShowRuns};
 
 /// The script of each accepted goal is well formed, so that what holds of the core holds of it.
 pub fn scripts_are_well_formed()
@@ -19,5 +19,6 @@ pub fn goals_stand_at_scripts()
 /// The scripts of each `&` that an accepted goal's script reaches join to what its goals show one after the other, from
 /// the values that are there or owed: in conjuncts too, in procedures that it calls, and where rights have moved into it.
 pub fn joins_show_traces()
-    ensures { JoinsShowTraces }
+    ensures joins { JoinsShowTraces }
+    ensures forks { ScriptsJoin }
 {}
