@@ -1,0 +1,3 @@
+pub mod Rights
+pub mod Going
+pub mod Boarding

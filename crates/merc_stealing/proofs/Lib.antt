@@ -1,0 +1,6 @@
+mod Lists
+mod Looking
+mod Joins
+mod Naming
+mod Reaching
+mod StealingExamples

@@ -1,0 +1,36 @@
+-- Lists: what stands at a place where one more comes at the end.
+use Rattle.std.proofs.Common.{◌≡◌, ℕ, zero, suc, ◌+◌, ◌<◌, List, [], ◌∷◌, ◌++◌, length, refl, sym, ap, ◌∙◌, subst, arith, ⊎_elim, ◌⊎◌, inl, inr}
+use Rattle.std.specs.Prelude.{Option, Some, None, slice_get}
+use Rattle.std.proofs.lemmas.List.{length-append}
+use Rattle.std.specs.List.{All}
+
+pub got_end : {A : Type 0} (l : List A) (a b : A) (j : ℕ) → slice_get (l ++ a ∷ []) j ≡ Some b → (slice_get l j ≡ Some b) ⊎ ((j ≡ length l) × (a ≡ b))
+got_end [] a b zero e = inr (refl, (cc))
+got_end [] a b (suc j) e = absurd (cc)
+got_end (x ∷ xs) a b zero e = inl e
+got_end (x ∷ xs) a b (suc j) e = ⊎_elim inl (λ t. inr (ap suc t.0, t.1)) (got_end xs a b j e)
+
+pub at_last : {A : Type 0} (l : List A) (x : A) → slice_get (l ++ x ∷ []) (length l) ≡ Some x
+at_last [] x = refl
+at_last (y ∷ ys) x = at_last ys x
+
+pub at_front : {A : Type 0} (l m : List A) (i : ℕ) (x : A) → slice_get l i ≡ Some x → slice_get (l ++ m) i ≡ Some x
+at_front [] m i x e = absurd (cc)
+at_front (y ∷ ys) m zero x e = e
+at_front (y ∷ ys) m (suc i) x e = at_front ys m i x e
+
+pub nothing : {A : Type 0} (l : List A) → length l ≡ 0 → l ≡ []
+nothing [] e = refl
+nothing (x ∷ xs) e = absurd (omega (arith, e))
+
+pub longer : {A : Type 0} (l m : List A) (x : A) → m ≡ l ++ x ∷ [] → length m ≡ length l + 1
+longer l m x is = ap length is ∙ length-append l (x ∷ [])
+
+pub all_more : {A : Type 0} (Q : A → Type 0) (l m : List A) (x : A) → m ≡ l ++ x ∷ [] → All Q l → Q x → All Q m
+all_more Q l m x is all new = subst (All Q) (sym is) (one_end Q l x all new)
+  where
+    one_end : {A : Type 0} (Q : A → Type 0) (l : List A) (x : A) → All Q l → Q x → All Q (l ++ x ∷ [])
+    one_end Q [] x all new zero d near = new
+    one_end Q [] x all new (suc k) d near = absurd (omega (arith, near))
+    one_end Q (y ∷ ys) x all new zero d near = all zero d (omega arith)
+    one_end Q (y ∷ ys) x all new (suc k) d near = one_end Q ys x (λ j e close. all (suc j) e (omega (arith, close))) new k d (omega (arith, near))

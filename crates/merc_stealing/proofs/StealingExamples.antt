@@ -1,0 +1,94 @@
+-- What the definitions of a stealing board say.
+use Rattle.std.proofs.Common.{◌≡◌, ℕ, true, false, List, [], ◌∷◌, refl, sym, ap, ◌∙◌, arith}
+use Rattle.std.specs.Prelude.{Option, Some, None}
+use Rattle.atomic_table.specs.Seated.{TableId}
+use Rattle.merc_value.specs.Block.{BlockData}
+use Rattle.merc_script.specs.declared.outcome.Outcome.TheVariants.{Ok as Fine, Raise, Limit, Starved, NoMemory}
+use Rattle.merc_script.specs.Script.{Script, Ends, TickThen, WaitThen, SignalThen, ForkThen, Child, NoChild}
+use Rattle.merc_yard.specs.declared.spot.Spot.{Spot}
+use Rattle.merc_yard.specs.declared.spot.Fill.TheVariants.{Vacant, Filled}
+use Rattle.merc_yard.specs.declared.spot.Purpose.TheVariants.{Ready, Waits, Forks}
+use Rattle.merc_yard.specs.declared.berth.Berth.{Berth}
+use Rattle.merc_yard.specs.Slots.{spot, label, no_table}
+use Rattle.merc_board.specs.declared.branch.Woken.TheVariants.{No, Value, Starved as WokenStarved}
+use Rattle.merc_stealing.specs.Spots.{place, parked, parked_for, after, child_spot, Reaches, fork_count}
+use Rattle.merc_stealing.specs.Beds.{cell_name, IsNamed, IsMoored, EndsAs}
+use Rattle.merc_stealing.specs.Lying.{MayWake}
+use Rattle.merc_stealing.specs.Parents.{Near}
+use Rattle.merc_stealing.specs.Memory.{has_memory}
+
+-- a root that makes a Tick, signals cell 6, makes a Tick and forks two children, and then waits for cell 7
+abbrev root : Script
+root = TickThen (SignalThen 6 (TickThen (ForkThen 10 [] [] (Child (Ends (Fine 1)) (Child (Ends (Raise 3 2)) NoChild)) (WaitThen 7 (Ends (Fine 5))))))
+
+abbrev yard : TableId
+yard = record { words = 1; slots = 2; views_name = 0; atom = 0; block = 0; offset = 0; slot_names = [] }
+
+abbrev at : ℕ → Spot
+at passed = spot yard [] passed Ready
+
+-- from its beginning it parks at the fork, and from behind the fork at the wait
+pub parks-there : (parked (place root (at 0)) ≡ 3) × (parked (place root (at 2)) ≡ 3) × (parked (place root (at 4)) ≡ 4)
+parks-there = (refl, refl, refl)
+
+pub parks-for : parked_for Forks root (at 1) ≡ spot yard [] 3 Forks
+parks-for = refl
+
+-- where it comes out of the berth it stands behind the fork; one that can be taken stands where it stood
+pub comes-after : (after (spot yard [] 3 Forks) ≡ at 4) × (after (at 2) ≡ at 2)
+comes-after = (refl, refl)
+
+pub child-there : (child_spot (spot yard [] 3 Forks) 2 ≡ spot yard ((3, 2) ∷ []) 0 Ready) × (fork_count (Some root) ≡ 0)
+child-there = (refl, refl)
+
+-- it passes Ticks and a signal on the way to the fork, and no fork
+pub reaches-fork : Reaches root (at 0) (place root (at 3))
+reaches-fork = record { same_root = refl; same_name = refl; same_end = refl }
+
+pub reaches-behind : Reaches root (at 0) (place root (at 4)) → ⊥
+reaches-behind reaches = absurd (let same : ◌≡◌ {A = ℕ} 4 3 = reaches.same_end in omega (arith, same))
+
+-- cell 7 of this yard, and of another
+pub named-here : IsNamed yard (cell_name yard 7)
+named-here = refl
+
+pub named-elsewhere : IsNamed yard (cell_name no_table 7) → ⊥
+named-elsewhere named = absurd (let words : ◌≡◌ {A = List ℕ} (cell_name no_table 7) (cell_name yard 7) = named in let first : ◌≡◌ {A = ℕ} 0 1 = cc (words) in omega (arith, first))
+
+-- a berth in which a branch lies that can be taken, and not one that waits
+abbrev berth : Berth
+berth = record { slot = 1; badge = record { marker = record {}; table_id = yard; id = 1; views = label 1 Filled (at 2) ∷ [] } }
+
+pub moored-ready : IsMoored yard Filled Ready berth
+moored-ready = ((refl, omega arith, refl), refl, refl)
+
+pub moored-waiting : IsMoored yard Filled Waits berth → ⊥
+moored-waiting moored = absurd (let same : Ready ≡ Waits = moored.2 in cc (same))
+
+-- the second child raises, and may starve, and does not come to its end
+pub ends-raised : EndsAs root ((3, 2) ∷ []) (Raise 3 2) × EndsAs root ((3, 2) ∷ []) Starved
+ends-raised = ((Ends (Raise 3 2), refl, refl), tt)
+
+pub ends-fine : EndsAs root ((3, 2) ∷ []) (Fine 2) → ⊥
+ends-fine end = absurd (let at = end.1 in let is = end.2 in let child : end.0 ≡ Ends (Raise 3 2) = cc (at) in cc (child, is))
+
+-- beside the true outcome want of memory may come, and no other outcome
+pub near-each : Near (Fine 3) (Fine 3) × Near (Fine 3) NoMemory
+near-each = (refl, tt)
+
+pub near-other : Near (Fine 3) Limit → ⊥
+near-other near = absurd (let same : Fine 3 ≡ Limit = near in cc (same))
+
+-- at the wait a branch is woken with the value of its cell, and not with nothing
+abbrev no_block : BlockData
+no_block = record { cells = []; roots = [] }
+
+pub wakes-given : MayWake root (λ cell value. cell ≡ 7) (at 4) (Value no_block)
+wakes-given cell rest left = cc (left)
+
+pub wakes-without : MayWake root (λ cell value. cell ≡ 7) (at 4) No → ⊥
+wakes-without woken = woken
+
+-- no script of the root ends for want of memory
+pub memory-kept : (has_memory root ≡ true) × (has_memory (Ends NoMemory) ≡ false)
+memory-kept = (refl, refl)

@@ -1,0 +1,6 @@
+use Rattle.merc_yard.specs.Berths.{spot_of}
+use Rattle.merc_stealing.specs.Spots.{after}
+use Rattle.merc_stealing.proofs.mooring.unmoor.Given as goal
+
+abbrev pub ghosts-unmoor_to : goal.ghosts-unmoor_to
+ghosts-unmoor_to g a = record { spot = after (spot_of a.berth) }

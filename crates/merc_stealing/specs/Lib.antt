@@ -1,0 +1,10 @@
+pub mod Spots
+pub mod Beds
+pub mod Lying
+pub mod Owning
+pub mod Seats
+pub mod Stolen
+pub mod Taking
+pub mod Waiting
+pub mod Parents
+pub mod Memory

@@ -1,0 +1,58 @@
+-- Parents behind their children.
+use Rattle.std.specs.Prelude.{◌≡◌, ℕ, suc, ◌+◌, List, [], ◌∷◌, Option, Some, None, length, slice_get, ⊤, false}
+use Rattle.merc_value.specs.Block.{BlockData}
+use Rattle.merc_script.specs.declared.outcome.Outcome.{Outcome}
+use Rattle.merc_script.specs.declared.outcome.Outcome.TheVariants.{Ok as Fine, Raise, Limit, Starved, NoMemory}
+use Rattle.merc_script.specs.Script.{Script, ForkThen, Children, NoChild, Child, Cell, Move, ends}
+use Rattle.merc_script.specs.Places.{Place, left_of}
+use Rattle.merc_script.specs.Joining.{joined, lacks_memory}
+use Rattle.atomic_table.specs.Seated.{TableId}
+use Rattle.merc_yard.specs.declared.berth.Berth.{Berth}
+use Rattle.merc_yard.specs.declared.spot.Spot.{Spot}
+use Rattle.merc_yard.specs.declared.spot.Fill.TheVariants.{Filled}
+use Rattle.merc_yard.specs.declared.spot.Purpose.TheVariants.{Forks}
+use Rattle.merc_yard.specs.Berths.{spot_of}
+use Rattle.merc_stealing.specs.declared.branch.Hold.{Hold}
+use Rattle.merc_board.specs.declared.branch.Branch.{Branch}
+use Rattle.merc_board.specs.Rights.{Rights}
+use Rattle.merc_stealing.specs.Spots.{place, behind, fork_count}
+use Rattle.merc_stealing.specs.Beds.{IsMoored, EndsChild}
+use Rattle.merc_stealing.specs.Lying.{rights, ForksAt}
+use Rattle.merc_stealing.specs.Owning.{Runs, Own, spot_held}
+
+-- the outcomes of the children of the Fork at which a branch lies in this berth
+pub record AreEnds (root : Script) (table : TableId) (berth : Berth) (outcomes : List Outcome) : Type 0 where
+  pub moored : IsMoored table Filled Forks berth
+  pub count : length outcomes ≡ fork_count (left_of (place root (spot_of berth)))
+  pub each : (child : ℕ) (outcome : Outcome) → slice_get outcomes child ≡ Some outcome → EndsChild root berth child outcome
+
+-- One outcome beside the true one: the same, or want of memory, or a value that does not come
+abbrev pub Near : Outcome → Outcome → Type 0
+Near true NoMemory = ⊤
+Near true Starved = ⊤
+Near true (Fine steps) = true ≡ Fine steps
+Near true (Raise text steps) = true ≡ Raise text steps
+Near true Limit = true ≡ Limit
+
+-- what the children of the Fork at a spot make together, if memory was never refused in a script
+abbrev pub IsJoin : Script → Spot → Outcome → Type 0
+IsJoin root o outcome = (limit : ℕ) (cells : List Cell) (moves : List Move) (children : Children) (rest : Script)
+    → left_of (place root o) ≡ Some (ForkThen limit cells moves children rest) → lacks_memory (ends children) ≡ false → Near (joined limit (ends children)) outcome
+
+abbrev pub IsJoined : Script → Spot → Option Outcome → Type 0
+IsJoined root o None = Unit {0}
+IsJoined root o (Some outcome) = IsJoin root o outcome
+
+module _ {L : Type 0} (root : Script) (table : TableId) where
+  -- a parent behind the Fork of this spot
+  pub record HoldsAt (o : Spot) (hold : Hold L) : Type 0 where
+    pub runs : Runs root table hold
+    pub spot : spot_held hold.berth ≡ behind o
+    pub held : IsJoined root o hold.held
+
+module _ {L : Type 0} (root : Script) (stands awaits forked : L → Rights → Place → Type 0) (shows : ℕ → BlockData → Type 0) (table : TableId) where
+  -- a parent behind its Fork, which has not gone on
+  pub record IsParent (branch : Branch L (Hold L)) : Type 0 where
+    pub fork : Spot
+    pub holds : HoldsAt root table fork branch.hold
+    pub forks : ForksAt root stands awaits forked shows branch.load (rights branch.hold) branch.hold.limit (place root fork)

@@ -1,0 +1,51 @@
+//! The seats of workers, and the sparks in them.
+ghost use Rattle.merc_yard.specs.declared.spot.Fill.TheVariants.{Filled};
+ghost use Rattle.merc_yard.specs.declared.spot.Purpose.TheVariants.{Ready, Free};
+ghost use Rattle.merc_stealing.specs.Beds.{IsMoored};
+
+use merc_deque::{Pass, Sparks};
+use merc_yard::Berth;
+use std::marker::{Brand, PhantomData};
+
+/// Which yard a board has. The call between the making of the yard and the opening of the board picks it.
+pub trait Room {
+    ghost use Rattle.atomic_table.specs.Seated.{TableId};
+
+    ghost table: { TableId };
+}
+
+impl Room for Brand {
+    ghost use Rattle.merc_yard.specs.Slots.{no_table};
+
+    ghost table = { no_table };
+}
+
+/// A berth of a board's yard in which a branch lies that can be run.
+#[derive(Drop)]
+pub struct Spark<N: Room> {
+    pub(crate) berth: Berth,
+    pub(crate) of: PhantomData<N>,
+    ghost moored: { IsMoored N.table Filled Ready berth },
+}
+
+/// The first of a chain of free berths.
+#[derive(Drop)]
+pub struct Chain<N: Room> {
+    pub(crate) berth: Berth,
+    pub(crate) of: PhantomData<N>,
+    ghost moored: { IsMoored N.table Filled Free berth },
+}
+
+/// What a worker has of a board.
+#[derive(Drop)]
+pub struct Seat<N: Room> {
+    /// The number of its worker, from 0.
+    pub(crate) number: usize,
+    pub(crate) sparks: Sparks<Spark<N>>,
+    /// A pass for each worker's deque, in order.
+    pub(crate) passes: Vec<Pass<Spark<N>>>,
+    /// The sparks that the deque refused, each linked to the next.
+    pub(crate) chain: Option<Spark<N>>,
+    /// The berths that the worker can use, each linked to the next.
+    pub(crate) free: Option<Chain<N>>,
+}
