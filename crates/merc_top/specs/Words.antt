@@ -1,7 +1,8 @@
 -- What is answered of that which the words ask for.
 use Rattle.std.specs.Prelude.{ℕ, List, Option, codes}
 use Rattle.merc_words.specs.Words.{IsSolve as IsSolveWith}
-pub use Rattle.merc_words.specs.Words.{IsCheck, default_steps}
+pub use Rattle.merc_words.specs.Words.{IsCheck}
+unfoldable pub use Rattle.merc_words.specs.Words.{default_steps}
 use Rattle.merc_top.specs.declared.words.Request.{Request}
 use Rattle.merc_top.specs.declared.words.Request.TheVariants.{Solve, Check}
 

@@ -8,6 +8,7 @@ ghost use Rattle.merc_grading.specs.Faults.{procedures_of};
 ghost use Rattle.merc_top.specs.Checking.{check_lines};
 ghost use Rattle.merc_top.specs.Output.{IsCheckDue, too_long_line};
 ghost use Rattle.merc_transfer.specs.Statuses.{accepted_status, too_long_status, usage_status};
+ghost use Rattle.merc_words.specs.Words.{IsRequest as AsksFor};
 ghost use Rattle.merc_top.specs.Words.{IsNoRequest, IsRequest, usage_line};
 ghost use Rattle.merc_base.specs.Outside.{Files};
 ghost use Rattle.merc_top.specs.Due.{Finds, IsFaultDue, IsRequestFound, IsSolveFound};
@@ -203,7 +204,24 @@ fn find_answer<S: Shelf>(alloc: Global, request: &Request<'_>, shelf: &mut S) ->
     }
 }
 
-// What is due for words over a shelf. What is not answered yet is answered as words are that ask for nothing.
+// What is due for that which the words ask for, over a shelf. What is not answered yet is answered as words are that ask for
+// nothing.
+fn find_asked<S: Shelf>(
+    alloc: Global,
+    asked: &merc_words::Request,
+    shelf: &mut S,
+) -> Result<Found, Trouble>
+    requires { S.read_faults shelf.old < 18446744073709551615 }
+    ensures same { S.files shelf.new ≡ S.files shelf.old }
+    ensures finds { (words : List (List ℕ)) → AsksFor words asked.now → Finds words (S.files shelf.old) (S.read_faults shelf.old) (S.read_faults shelf.new) result }
+{
+    match answered(asked) {
+        Some(request) => find_answer(alloc, &request, shelf),
+        None => find_usage(alloc),
+    }
+}
+
+// What is due for words over a shelf.
 fn find_due<S: Shelf>(alloc: Global, words: &[Text], shelf: &mut S) -> Result<Found, Trouble>
     requires { S.read_faults shelf.old < 18446744073709551615 }
     ensures same { S.files shelf.new ≡ S.files shelf.old }
@@ -211,10 +229,7 @@ fn find_due<S: Shelf>(alloc: Global, words: &[Text], shelf: &mut S) -> Result<Fo
 {
     match read_words(alloc, words) {
         Ok(asked) => {
-            let found = match answered(&asked) {
-                Some(request) => find_answer(alloc, &request, shelf),
-                None => find_usage(alloc),
-            };
+            let found = find_asked(alloc, &asked, shelf);
             drop(asked);
             found
         }

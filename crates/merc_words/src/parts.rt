@@ -1,11 +1,11 @@
 //! How the words behind the command are parted, by `clap`.
 ghost use Rattle.std.specs.Prelude.{◌≡◌, ◌↔◌, false, All, IfErr, IfOk, IsUtf8};
-ghost use Rattle.clap.specs.Simple.{app_of};
+ghost use Rattle.clap.specs.Simple.{app_of, new_rule, with_rule};
 ghost use Rattle.clap.specs.Walk.{rule_of};
 ghost use Rattle.clap.specs.Values.{kind_of};
 ghost use Rattle.clap.specs.declared.error.kind.ErrorKind.TheVariants.{OutOfMemory};
 ghost use Rattle.merc_words.specs.declared.words.WordsFault.TheVariants.{Usage};
-ghost use Rattle.merc_words.specs.Asked.{asked_app, option_rule};
+ghost use Rattle.merc_words.specs.Asked.{asked_app, option_rule, plain_app};
 ghost use Rattle.merc_words.specs.Parts.{Gives, Texts, texts_of, words_behind};
 
 use crate::words::WordsFault;
@@ -37,25 +37,46 @@ fn option<'a>(alloc: Global, name: &'a str) -> Arg<'a>
     Arg::new(alloc, name).long(name)
 }
 
+// The command with one more option, which has one text.
+fn with_option<'a>(
+    alloc: Global,
+    command: Command<'a>,
+    name: &'a str,
+) -> Result<Command<'a>, NoMemory>
+    ensures { IfOk result (λ more. app_of more ≡ with_rule (app_of command.entry) (option_rule name.entry.now)) }
+{
+    Ok(command.arg(option(alloc, name))?)
+}
+
+// The command with one more plain word, which is not wanted.
+fn with_word<'a>(
+    alloc: Global,
+    command: Command<'a>,
+    name: &'a str,
+) -> Result<Command<'a>, NoMemory>
+    ensures { IfOk result (λ more. app_of more ≡ with_rule (app_of command.entry) (new_rule name.entry.now)) }
+{
+    Ok(command.arg(Arg::new(alloc, name))?)
+}
+
+// A command that is handed the words behind its name, and adds no help.
+fn plain_command<'a>(alloc: Global) -> Command<'a>
+    ensures { app_of result ≡ plain_app }
+{
+    Command::new(alloc, "merc")
+        .no_binary_name(true)
+        .disable_help_flag(true)
+}
+
 // What `clap` is asked: one command for all, with the three options and two plain words, of which none is wanted.
 fn command<'a>(alloc: Global) -> Result<Command<'a>, NoMemory>
     ensures { IfOk result (λ command. app_of command ≡ asked_app) }
 {
-    let workers = option(alloc, "workers");
-    let steps = option(alloc, "steps");
-    let most = option(alloc, "max");
-    let first = Arg::new(alloc, "first");
-    let second = Arg::new(alloc, "second");
-    let bare = Command::new(alloc, "merc")
-        .no_binary_name(true)
-        .disable_help_flag(true);
-    let command = bare
-        .arg(workers)?
-        .arg(steps)?
-        .arg(most)?
-        .arg(first)?
-        .arg(second)?;
-    Ok(command)
+    let command = with_option(alloc, plain_command(alloc), "workers")?;
+    let command = with_option(alloc, command, "steps")?;
+    let command = with_option(alloc, command, "max")?;
+    let command = with_word(alloc, command, "first")?;
+    with_word(alloc, command, "second")
 }
 
 // Why the words were refused.
