@@ -4,16 +4,19 @@
 use merc_base::{NoMemory, Tap, Text};
 use merc_io::{FileShelf, OpenGate, OutSink};
 use merc_machine::Ticks;
+use merc_top::answer;
 use merc_top::statuses::{NO_MEMORY, UNREAD, UNWRITTEN};
-use merc_top::{answer, read_words};
+use merc_words::{Request, read_words};
+use std::alloc::Global;
 use std::env::FillError;
+use std::io;
 use std::process::ExitCode;
 use std::rt::Env;
 
 fn main(rt: HostRuntime) -> ExitCode {
     let alloc = rt.alloc();
     let Ok(words) = all_words(&rt) else {
-        complain(&rt, &[], NO_MEMORY);
+        complain(&rt, alloc, &[], NO_MEMORY);
         return ExitCode::from(NO_MEMORY);
     };
     let mut shelf = FileShelf::new(&rt);
@@ -23,25 +26,31 @@ fn main(rt: HostRuntime) -> ExitCode {
     let status = answer(
         &rt, alloc, &words, &mut shelf, &mut sink, &mut taps, &OpenGate, &mut ticks,
     );
-    complain(&rt, &words, status);
+    complain(&rt, alloc, &words, status);
     ExitCode::from(status)
 }
 
 // Says on standard error why the text that is due was not written. Where that cannot be said, nothing changes.
-fn complain<R: Eprint>(rt: &R, words: &[Text], status: u8) {
+fn complain<R: Eprint>(rt: &R, alloc: Global, words: &[Text], status: u8) {
     let _said = match status {
-        UNREAD => eprintln!(rt; "merc: {} cannot be read", file_name(words)),
+        UNREAD => complain_of_file(rt, alloc, words),
         UNWRITTEN => eprintln!(rt; "merc: standard output cannot be written"),
         NO_MEMORY => eprintln!(rt; "merc: out of memory"),
         _ => Ok(()),
     };
 }
 
-// The name of the file that the words ask for, as it was given.
-fn file_name(words: &[Text]) -> &str {
-    match read_words(words) {
-        Some(request) => str::from_utf8(request.file().bytes()).unwrap_or("the file"),
-        None => "the file",
+// Says which file cannot be read, by its name as it was given.
+fn complain_of_file<R: Eprint>(rt: &R, alloc: Global, words: &[Text]) -> io::Result<()> {
+    let Ok(asked) = read_words(alloc, words) else {
+        return eprintln!(rt; "merc: the file cannot be read");
+    };
+    match &asked {
+        Request::Solve { file, .. } | Request::Check { file } | Request::Code { file } => {
+            let name = str::from_utf8(file.bytes()).unwrap_or("the file");
+            eprintln!(rt; "merc: {name} cannot be read")
+        }
+        Request::Grow { .. } => eprintln!(rt; "merc: the file cannot be read"),
     }
 }
 

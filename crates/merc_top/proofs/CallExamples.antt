@@ -41,8 +41,7 @@ use Rattle.merc_top.proofs.Causes.{solved-exactly, module_refused-exactly, goal_
 use Rattle.merc_top.proofs.OutputExamples.{one_answer}
 use Rattle.merc_top.proofs.CheckingExamples.{tree}
 use Rattle.merc_top.proofs.DueExamples.{bad_token, lone_byte-refused, one_text, one_names, one_module, one_lines, run_names, first_output, IsDue-module_refused, IsDue-runs, IsCheckDue-refused, IsCheckDue-accepted}
-use Rattle.merc_top.proofs.Requests.{shown, solve-no_check, solve-unique}
-use Rattle.merc_top.proofs.Options.{differ}
+use Rattle.merc_top.proofs.Requests.{differ, shown, solve-no_check, solve-unique}
 use Rattle.merc_top.proofs.WordsExamples.{IsNoRequest-nothing, check_words, check-plain, solve-plain, utf8-goal, utf8-one, IsSolve-example, IsCheck-example}
 
 abbrev words_for : List ℕ → List ℕ → List (List ℕ)

@@ -17,7 +17,7 @@ use Rattle.merc_graded_tree.specs.declared.basic.BasicGoal.TheVariants.{True}
 use Rattle.merc_grading.specs.Faults.{Procedure}
 use Rattle.merc_top.specs.Checking.{place_text, places_text, procedure_line, procedure_lines, own_procedures, check_lines}
 use Rattle.merc_transfer.specs.Writing.{text_of}
-use Rattle.merc_top.proofs.Options.{differ}
+use Rattle.merc_top.proofs.Requests.{differ}
 
 abbrev at : ℕ → Span
 at byte = record { first = byte; past = byte + 1; line = 1 }

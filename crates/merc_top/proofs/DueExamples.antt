@@ -52,8 +52,7 @@ use Rattle.merc_top.specs.Output.IsCheckDue.{check_refused, check_accepted}
 use Rattle.merc_top.proofs.OutputLaws.{IsDue-unique, IsCheckDue-unique}
 use Rattle.merc_top.proofs.CheckingExamples.{mode, predicate, tree}
 use Rattle.merc_top.proofs.OutputExamples.{one_answer}
-use Rattle.merc_top.proofs.Requests.{shown}
-use Rattle.merc_top.proofs.Options.{differ}
+use Rattle.merc_top.proofs.Requests.{differ, shown}
 
 -- ---- a text that breaks a rule
 

@@ -1,7 +1,7 @@
 -- What is due, over the files that a shelf tells, or over files that fit what was read.
 use Rattle.std.proofs.Common.{◌≡◌, ◌<◌, ◌≤◌, ◌⊎◌, ◌∙◌, ℕ, suc, zero, List, [], ◌∷◌, ap, sym, refl, subst, inl, inr, length, arith, lit<}
 use Rattle.std.proofs.lemmas.List.{length-replicate}
-use Rattle.std.specs.Prelude.{Bool, true, false, Option, Some, None, Ok, IfSome, replicate, if◌then◌else◌}
+use Rattle.std.specs.Prelude.{Bool, true, false, Option, Some, None, Ok, Err, IfSome, replicate, if◌then◌else◌}
 use Rattle.std.proofs.lemmas.Slice.Eq.{bytes_eq-Decides}
 use Rattle.merc_base.specs.Outside.{Files, file_named}
 use Rattle.merc_base.specs.Names.{fixed_names}
@@ -23,7 +23,7 @@ use Rattle.merc_top.specs.declared.words.Request.{Request}
 use Rattle.merc_top.specs.declared.words.Request.TheVariants.{Solve, Check}
 use Rattle.merc_top.specs.Words.{IsRequest, IsNoRequest, file_of, usage_line}
 use Rattle.merc_transfer.specs.Statuses.{limit_status, module_status, solved_status, usage_status, unread_status, too_long_status}
-use Rattle.merc_transfer.specs.Loading.{file_limit, IsTooLong}
+use Rattle.merc_transfer.specs.Loading.{Loads, file_limit, IsTooLong}
 use Rattle.merc_solving.specs.RunLines.{end_status, run_status}
 use Rattle.merc_top.specs.Output.{IsOutput, IsDue, IsCheckDue, IsRequestDue, FileOutput, refusal_line, too_long_line}
 use Rattle.merc_top.specs.Output.IsDue.{module_refused, goal_refused, runs}
@@ -31,6 +31,8 @@ use Rattle.merc_top.specs.Output.IsCheckDue.{check_refused, check_accepted}
 use Rattle.merc_solving.specs.Runs.{answers_of, end_of, is_stopped}
 use Rattle.merc_top.specs.Answer.{AreFiles}
 use Rattle.merc_transfer.specs.declared.due.Due.{Due}
+use Rattle.merc_transfer.specs.declared.loading.LoadFault.TheVariants.{Unread as LoadUnread}
+use Rattle.merc_top.specs.declared.answering.Trouble.TheVariants.{Unread}
 use Rattle.merc_top.specs.declared.answering.Found.{Found}
 use Rattle.merc_top.specs.declared.answering.Found.TheVariants.{Lines, Run as Runs}
 use Rattle.merc_solving.specs.declared.solving.Ready.{Ready}
@@ -146,6 +148,13 @@ module _ (words : List (List ℕ)) (told : Option Files) (before now : ℕ) (tex
         ),
       )
   file-found (Check file) (Runs ready) asked content found = absurd found
+
+-- A file that could not be read.
+pub unread-found : (words : List (List ℕ)) (told : Option Files) (before now : ℕ) (request : Request) → IsRequest words request → Loads told (file_of request) before now (Err LoadUnread)
+    → Finds words told before now (Err Unread)
+unread-found words None before now request asked read = inl read
+unread-found words (Some files) before now request asked (inl read) = inl read
+unread-found words (Some files) before now request asked (inr absent) = inr (absent.0, (request, asked, absent.1))
 
 too_long_content : (content : Option (List ℕ)) → IsTooLong content → (text : List ℕ) × (content ≡ Some text) × (file_limit < length text)
 too_long_content None long = absurd long

@@ -1,8 +1,6 @@
 pub mod CheckingLemmas
 pub mod ReadyLemmas
 pub mod Dues
-pub mod Digits
-pub mod Options
 pub mod Requests
 pub mod OutputLaws
 pub mod Causes
@@ -11,7 +9,6 @@ pub mod TruthExamples
 pub mod CallEnds
 pub mod AnswerLaws
 pub mod WordsExamples
-pub mod OptionsExamples
 pub mod CheckingExamples
 pub mod OutputExamples
 pub mod DueExamples

@@ -24,7 +24,7 @@ use Rattle.merc_transfer.specs.Loading.{file_limit}
 use Rattle.merc_top.specs.Words.{default_steps}
 use Rattle.merc_top.specs.Output.{refusal_line, too_long_line}
 use Rattle.merc_top.proofs.CheckingExamples.{mode, predicate}
-use Rattle.merc_top.proofs.Options.{differ}
+use Rattle.merc_top.proofs.Requests.{differ}
 
 abbrev bad_token : Refusal
 bad_token = record { rule = BadToken; place = record { byte = 7; line = 2 }; detail = Plain }

@@ -1,5 +1,5 @@
 //! The top call.
-ghost use Rattle.std.specs.Prelude.{◌≡◌, ◌<◌, ◌≤◌, All, ℕ, List, IfOk, false, [], ◌∷◌, length};
+ghost use Rattle.std.specs.Prelude.{◌≡◌, ◌<◌, ◌≤◌, All, ℕ, List, IfOk, false, [], ◌∷◌, length, Option};
 ghost use Rattle.merc_base.specs.Names.{fixed_names};
 ghost use Rattle.merc_check.specs.Accepted.{AreGraded};
 ghost use Rattle.merc_check.specs.Checked.{IsAccepted};
@@ -8,19 +8,22 @@ ghost use Rattle.merc_grading.specs.Faults.{procedures_of};
 ghost use Rattle.merc_top.specs.Checking.{check_lines};
 ghost use Rattle.merc_top.specs.Output.{IsCheckDue, too_long_line};
 ghost use Rattle.merc_transfer.specs.Statuses.{accepted_status, too_long_status, usage_status};
-ghost use Rattle.merc_top.specs.Words.{usage_line};
+ghost use Rattle.merc_words.specs.Words.{IsRequest as AsksFor};
+ghost use Rattle.merc_top.specs.Words.{IsNoRequest, IsRequest, usage_line};
+ghost use Rattle.merc_base.specs.Outside.{Files};
 ghost use Rattle.merc_top.specs.Due.{Finds, IsFaultDue, IsRequestFound, IsSolveFound};
 ghost use Rattle.merc_top.specs.Answer.{Answers};
 
 use crate::checking::check_lines;
 use crate::lines::{refusal_line, too_long_line};
 use crate::preparing::prepare;
-use crate::words::{Request, read_words};
+use crate::words::{Request, answered};
 use merc_base::{Fault, Gate, Names, NoMemory, Sequence, Shelf, Sink, Tap, Text};
 use merc_check::{Checked, check, check_query};
 use merc_machine::Ticks;
 use merc_solving::{Ready, run};
 use merc_transfer::{Due, LoadFault, load, put_due, status_told, statuses};
+use merc_words::{WordsFault, read_words};
 use std::alloc::Global;
 use std::sync::Wait;
 use std::thread::Threads;
@@ -186,28 +189,66 @@ fn find_requested(alloc: Global, request: &Request<'_>, text: &Text) -> Result<F
     }
 }
 
-// What is due for words over a shelf.
-fn find_due<S: Shelf>(alloc: Global, words: &[Text], shelf: &mut S) -> Result<Found, Trouble>
+// What is due for a request over a shelf.
+fn find_answer<S: Shelf>(alloc: Global, request: &Request<'_>, shelf: &mut S) -> Result<Found, Trouble>
     requires { S.read_faults shelf.old < 18446744073709551615 }
     ensures same { S.files shelf.new ≡ S.files shelf.old }
-    ensures finds { Finds words.now (S.files shelf.old) (S.read_faults shelf.old) (S.read_faults shelf.new) result }
+    ensures finds { (words : List (List ℕ)) → IsRequest words request.now → Finds words (S.files shelf.old) (S.read_faults shelf.old) (S.read_faults shelf.new) result }
 {
-    let request = match read_words(words) {
-        Some(request) => request,
-        None => return Ok(Found::Lines(usage_due(alloc)?)),
-    };
     let file = request.file();
     match load(alloc, shelf, file) {
-        Ok(text) => Ok(find_requested(alloc, &request, &text)?),
+        Ok(text) => Ok(find_requested(alloc, request, &text)?),
         Err(LoadFault::TooLong) => Ok(Found::Lines(too_long_due(alloc, file.bytes())?)),
         Err(LoadFault::Unread) => Err(Trouble::Unread),
         Err(LoadFault::NoMemory) => Err(Trouble::NoMemory),
     }
 }
 
+// What is due for that which the words ask for, over a shelf. What is not answered yet is answered as words are that ask for
+// nothing.
+fn find_asked<S: Shelf>(
+    alloc: Global,
+    asked: &merc_words::Request,
+    shelf: &mut S,
+) -> Result<Found, Trouble>
+    requires { S.read_faults shelf.old < 18446744073709551615 }
+    ensures same { S.files shelf.new ≡ S.files shelf.old }
+    ensures finds { (words : List (List ℕ)) → AsksFor words asked.now → Finds words (S.files shelf.old) (S.read_faults shelf.old) (S.read_faults shelf.new) result }
+{
+    match answered(asked) {
+        Some(request) => find_answer(alloc, &request, shelf),
+        None => find_usage(alloc),
+    }
+}
+
+// What is due for words over a shelf.
+fn find_due<S: Shelf>(alloc: Global, words: &[Text], shelf: &mut S) -> Result<Found, Trouble>
+    requires { S.read_faults shelf.old < 18446744073709551615 }
+    ensures same { S.files shelf.new ≡ S.files shelf.old }
+    ensures finds { Finds words.now (S.files shelf.old) (S.read_faults shelf.old) (S.read_faults shelf.new) result }
+{
+    match read_words(alloc, words) {
+        Ok(asked) => {
+            let found = find_asked(alloc, &asked, shelf);
+            drop(asked);
+            found
+        }
+        Err(WordsFault::Usage) => find_usage(alloc),
+        Err(WordsFault::NoMemory) => Err(Trouble::NoMemory),
+    }
+}
+
+// What is found for words that ask for nothing that is answered.
+fn find_usage(alloc: Global) -> Result<Found, Trouble>
+    ensures { (words : List (List ℕ)) (told : Option Files) (before : ℕ) → IsNoRequest words → Finds words told before before result }
+{
+    Ok(Found::Lines(usage_due(alloc)?))
+}
+
 /// Does all that the program does, and answers the status that it ends with.
 ///
-/// The words, without the program's own name, are `solve FILE GOAL` with the options `--steps N` and `--max N`, or `check FILE`.
+/// The words, without the program's own name, are `solve FILE GOAL` with the options `--workers N`, `--steps N` and `--max N`, or
+/// `check FILE`; `code FILE` and `grow N` are answered as words that ask for nothing, as long as they are not built.
 /// The whole file is read from the shelf before anything is written. Then the lines that are due go to the sink in order, each
 /// as one piece, and the rest of it again where less was taken; after a write that failed there is no other. The line of an
 /// answer is written before the next answer is looked for, and no line is kept. The text of each line and the meaning of each
@@ -225,8 +266,8 @@ fn find_due<S: Shelf>(alloc: Global, words: &[Text], shelf: &mut S) -> Result<Fo
 /// The counter, which is at 0 before, counts the steps of the run: where no read and no write failed and the status is
 /// that of a run, all of them up to its last answer that is told where it is stopped there, as specs/Answer.antt says.
 ///
-/// The taps get no event yet, and no conjunct enters the gate. The runtime is for runs with several workers. Under its bounds
-/// the call need not return.
+/// The taps get no event yet, and no conjunct enters the gate. One worker runs, whatever their number; the runtime is for runs
+/// with several. Under its bounds the call need not return.
 pub fn answer<R: Threads + Wait, S: Shelf, K: Sink, G: Gate + Sync>(
     rt: &R,
     alloc: Global,

@@ -9,4 +9,3 @@ mod words;
 
 pub use answering::answer;
 pub use merc_transfer::statuses;
-pub use words::{Request, read_words};

@@ -1,32 +1,10 @@
-use Rattle.std.proofs.Common.{◌∙◌, ap, subst, ℕ, List, [], ◌∷◌}
-use Rattle.std.specs.Prelude.{Ok, Err}
-use Rattle.merc_transfer.specs.declared.loading.LoadFault.TheVariants.{TooLong}
-use Rattle.merc_transfer.specs.Loading.{Loads}
-use Rattle.merc_top.specs.Output.{too_long_line}
-use Rattle.merc_top.proofs.Dues.{usage-found, file-found, too_long-found}
+-- Words that ask for nothing ask for nothing that is answered.
+use Rattle.merc_top.proofs.Requests.{none-answered}
 use Rattle.merc_top.proofs.answering.find_due.Goals as goal
 
-pub returns-in-None-clause-finds : goal.returns-in-None-clause-finds
-returns-in-None-clause-finds g c =
-    let line = c.in_ok-usage_due-in-None.ensures in
-    usage-found c.args.words.now (g.S.Shelf.files c.args.shelf.now) (g.S.Shelf.read_faults c.args.shelf.now) c.in_ok-usage_due-in-None.field-0 c.in-None.ensures line.0 line.1
+pub returns-in-Ok-clause-finds : goal.returns-in-Ok-clause-finds
+returns-in-Ok-clause-finds g c = c.find_asked-found.ensures.finds c.args.words.now c.in-Ok.ensures.request
 
-pub returns-in_ok-find_requested-in-Ok-clause-finds : goal.returns-in_ok-find_requested-in-Ok-clause-finds
-returns-in_ok-find_requested-in-Ok-clause-finds g c =
-    let loaded =
-    subst (λ (name : List ℕ). Loads (g.S.Shelf.files c.args.shelf.now) name (g.S.Shelf.read_faults c.args.shelf.now) (g.S.Shelf.read_faults c.load.new.shelf) (Ok c.in-Ok.text))
-    c.file-file.ensures c.in-Ok.ensures.loads in
-    file-found c.args.words.now (g.S.Shelf.files c.args.shelf.now) (g.S.Shelf.read_faults c.args.shelf.now) (g.S.Shelf.read_faults c.load.new.shelf) c.in-Ok.text loaded.0 loaded.1
-    c.in-Some.request c.in_ok-find_requested-in-Ok.field-0 c.in-Some.ensures loaded.2 c.in_ok-find_requested-in-Ok.ensures
-
-pub returns-in_ok-too_long_due-in-Err-TooLong-clause-finds : goal.returns-in_ok-too_long_due-in-Err-TooLong-clause-finds
-returns-in_ok-too_long_due-in-Err-TooLong-clause-finds g c =
-    let loaded =
-    subst (λ (name : List ℕ). Loads (g.S.Shelf.files c.args.shelf.now) name (g.S.Shelf.read_faults c.args.shelf.now) (g.S.Shelf.read_faults c.load.new.shelf) (Err TooLong))
-    c.file-file.ensures
-    (subst (λ fault. Loads (g.S.Shelf.files c.args.shelf.now) c.file-file.result.now (g.S.Shelf.read_faults c.args.shelf.now) (g.S.Shelf.read_faults c.load.new.shelf) (Err fault))
-    c.in-Err-TooLong.field-0-is c.in-Err-TooLong.ensures.loads) in
-    let line = c.in_ok-too_long_due-in-Err-TooLong.ensures in
-    too_long-found c.args.words.now (g.S.Shelf.files c.args.shelf.now) (g.S.Shelf.read_faults c.args.shelf.now) (g.S.Shelf.read_faults c.load.new.shelf) c.in-Some.request
-    c.in_ok-too_long_due-in-Err-TooLong.field-0 loaded.0 c.in-Some.ensures loaded.1
-    (line.0 ∙ ap (λ (name : List ℕ). too_long_line name ∷ []) (c.bytes.ensures ∙ c.file-file.ensures)) line.1
+pub returns-in-Err-Usage-clause-finds : goal.returns-in-Err-Usage-clause-finds
+returns-in-Err-Usage-clause-finds g c =
+    c.find_usage.ensures c.args.words.now (g.S.Shelf.files c.args.shelf.now) (g.S.Shelf.read_faults c.args.shelf.now) (none-answered c.args.words.now (c.in-Err-Usage.ensures.usage (c.in-Err-Usage.field-0-is)))

@@ -4,15 +4,12 @@ use Rattle.std.proofs.Common.{◌∙◌, arith, lit<, lit≤, ap, sym, slice_ind
 use Rattle.std.proofs.lemmas.Bool.{false≢true}
 use Rattle.std.proofs.lemmas.List.Elements.{All-cons, All-nil}
 use Rattle.merc_tokens.specs.Bytes.{is_digit_of}
-use Rattle.merc_top.specs.declared.words.Plains.TheVariants.{Nothing, One, Two}
-use Rattle.merc_top.specs.declared.words.Setting.{Setting}
-use Rattle.merc_top.specs.declared.words.Setting.TheVariants.{Steps, Max}
-use Rattle.merc_top.specs.declared.words.Settings.{Settings}
-use Rattle.merc_top.specs.declared.words.Request.TheVariants.{Solve, Check}
-use Rattle.merc_top.specs.declared.words.WordKind.TheVariants.{Plain, End, Name, Assigned, Unknown}
-use Rattle.merc_top.specs.Words.{IsCheckOf, IsKind, IsNumberOf, IsSolveOf, NamesNot, Sets, SetsTo, default_steps, digit_limit, greatest, is_option, least, no_settings, options_end, plains_of, setting_in, setting_word, with_setting}
-use Rattle.merc_top.specs.Words.Sets.{no_word, plain_word, ends_options, in_two_words, in_one_word}
-use Rattle.merc_top.proofs.Options.{differ, opened, opened-assigned, opened-name, sets-unique, shown}
+use Rattle.merc_words.specs.declared.settings.Setting.{Setting}
+use Rattle.merc_words.specs.declared.settings.Setting.TheVariants.{Workers, Steps, Max}
+use Rattle.merc_words.specs.declared.settings.Settings.{Settings}
+use Rattle.merc_words.specs.Words.{IsNumberIn, IsNumberOf, Sets, default_steps, default_workers, digit_limit, greatest, greatest_count, is_option, least, least_count, no_settings, options_end, setting_in, setting_word, with_setting}
+use Rattle.merc_words.specs.Words.Sets.{no_word, plain_word, ends_options, in_two_words, in_one_word}
+use Rattle.merc_words.proofs.Options.{IsKind, Name, NamesNot, Unknown, differ, opened, opened-assigned, opened-name, sets-unique}
 
 -- ---- numbers
 
@@ -22,16 +19,47 @@ setting_word-example = refl
 pub setting_word-counterexample : setting_word Max ≡ setting_word Steps → ⊥
 setting_word-counterexample same = differ 109 115 (omega arith) (ap (λ (text : List ℕ). slice_index text 2) same)
 
+pub setting_word-workers : setting_word Workers ≡ codes "--workers"
+setting_word-workers = refl
+
+pub setting_word-steps : setting_word Steps ≡ codes "--steps"
+setting_word-steps = refl
+
 -- no answer is no bound
 pub least-example : least Max ≡ 1
 least-example = refl
 
+-- and no worker is none that runs
+pub least-workers : least Workers ≡ 1
+least-workers = refl
+
 pub least-counterexample : least Steps ≡ 1 → ⊥
 least-counterexample same = differ 0 1 (omega arith) same
 
-pub greatest-example : greatest ≡ 1000 * (1000 * 1000)
+pub greatest-example : greatest Steps ≡ 1000 * (1000 * 1000)
 unfolding greatest
 greatest-example = refl
+
+pub greatest-answers : greatest Max ≡ greatest Steps
+unfolding greatest
+greatest-answers = refl
+
+pub greatest-workers : greatest Workers ≡ 64
+unfolding greatest
+greatest-workers = refl
+
+pub greatest-counterexample : greatest Workers ≡ greatest Steps → ⊥
+unfolding greatest
+greatest-counterexample same = differ 64 1000000000 (omega arith) same
+
+pub default_workers-example : default_workers ≡ 4
+default_workers-example = refl
+
+pub least_count-example : least_count ≡ 1
+least_count-example = refl
+
+pub greatest_count-example : greatest_count ≡ 2 * 1000
+greatest_count-example = refl
 
 pub default_steps-example : default_steps ≡ 1000 * 1000
 unfolding default_steps
@@ -113,9 +141,46 @@ pub IsNumberOf-no_answer : (number : ℕ) → IsNumberOf Max (codes "0") number 
 IsNumberOf-no_answer number is = let value : number ≡ 0 = is.value in let low : 1 ≤ number = is.not_less in omega (arith, value, low)
 
 -- one more than the greatest
-pub IsNumberOf-past : (setting : Setting) (number : ℕ) → IsNumberOf setting (codes "1000000001") number → ⊥
+pub IsNumberOf-past : (number : ℕ) → IsNumberOf Max (codes "1000000001") number → ⊥
 unfolding greatest
-IsNumberOf-past setting number is = let value : number ≡ 1000000001 = is.value in let high : number ≤ 1000000000 = is.not_more in omega (arith, value, high)
+IsNumberOf-past number is = let value : number ≡ 1000000001 = is.value in let high : number ≤ 1000000000 = is.not_more in omega (arith, value, high)
+
+pub IsNumberOf-many_steps : (number : ℕ) → IsNumberOf Steps (codes "1000000001") number → ⊥
+unfolding greatest
+IsNumberOf-many_steps number is = let value : number ≡ 1000000001 = is.value in let high : number ≤ 1000000000 = is.not_more in omega (arith, value, high)
+
+-- 64 workers, and one more
+pub IsNumberOf-workers : IsNumberOf Workers (codes "64") 64
+unfolding greatest
+IsNumberOf-workers = record {
+  digits = All-cons (λ (byte : ℕ). is_digit_of 10 byte ≡ true) 54 (codes "4") refl (All-cons (λ (byte : ℕ). is_digit_of 10 byte ≡ true) 52 [] refl (All-nil (λ (byte : ℕ). is_digit_of 10 byte ≡ true)));
+  some = lit≤ tt;
+  few = lit≤ tt;
+  value = refl;
+  not_less = lit≤ tt;
+  not_more = lit≤ tt;
+}
+
+pub IsNumberOf-many_workers : (number : ℕ) → IsNumberOf Workers (codes "65") number → ⊥
+unfolding greatest
+IsNumberOf-many_workers number is = let value : number ≡ 65 = is.value in let high : number ≤ 64 = is.not_more in omega (arith, value, high)
+
+pub IsNumberOf-no_worker : (number : ℕ) → IsNumberOf Workers (codes "0") number → ⊥
+IsNumberOf-no_worker number is = let value : number ≡ 0 = is.value in let low : 1 ≤ number = is.not_less in omega (arith, value, low)
+
+-- a module of two predicates, and one of more than the greatest has
+pub IsNumberIn-example : IsNumberIn least_count greatest_count (codes "2") 2
+IsNumberIn-example = record {
+  digits = All-cons (λ (byte : ℕ). is_digit_of 10 byte ≡ true) 50 [] refl (All-nil (λ (byte : ℕ). is_digit_of 10 byte ≡ true));
+  some = lit≤ tt;
+  few = lit≤ tt;
+  value = refl;
+  not_less = lit≤ tt;
+  not_more = lit≤ tt;
+}
+
+pub IsNumberIn-counterexample : (number : ℕ) → IsNumberIn least_count greatest_count (codes "2001") number → ⊥
+IsNumberIn-counterexample number is = let value : number ≡ 2001 = is.value in let high : number ≤ 2000 = is.not_more in omega (arith, value, high)
 
 -- another number than the digits'
 pub IsNumberOf-other : IsNumberOf Steps (codes "007") 8 → ⊥
@@ -127,7 +192,7 @@ pub set_unset : (number : ℕ) → ◌≡◌ {A = Option ℕ} (Some number) None
 set_unset number same = cc
 
 abbrev three_steps : Settings
-three_steps = record { steps = Some 3; most = None }
+three_steps = record { workers = None; steps = Some 3; most = None }
 
 pub setting_in-example : setting_in Steps three_steps ≡ Some 3
 setting_in-example = refl
@@ -138,40 +203,30 @@ setting_in-counterexample same = cc
 pub no_settings-example : setting_in Steps no_settings ≡ None
 no_settings-example = refl
 
-pub with_setting-example : with_setting Max 1 three_steps ≡ record { steps = Some 3; most = Some 1 }
+pub with_setting-example : with_setting Max 1 three_steps ≡ record { workers = None; steps = Some 3; most = Some 1 }
 with_setting-example = refl
 
-pub with_setting-steps : with_setting Steps 7 (with_setting Max 1 no_settings) ≡ record { steps = Some 7; most = Some 1 }
+pub with_setting-steps : with_setting Steps 7 (with_setting Max 1 no_settings) ≡ record { workers = None; steps = Some 7; most = Some 1 }
 with_setting-steps = refl
+
+pub with_setting-workers : with_setting Workers 2 three_steps ≡ record { workers = Some 2; steps = Some 3; most = None }
+with_setting-workers = refl
 
 -- each option sets its own
 pub with_setting-counterexample : with_setting Max 1 no_settings ≡ with_setting Steps 1 no_settings → ⊥
 with_setting-counterexample same = set_unset 1 (ap (λ (settings : Settings). settings.most) same)
 
-pub SetsTo-example : SetsTo Steps (codes "007") no_settings (record { steps = Some 7; most = None })
-SetsTo-example = (7, refl, IsNumberOf-example, refl)
-
--- it is set already
-pub SetsTo-counterexample : (after : Settings) → SetsTo Steps (codes "007") three_steps after → ⊥
-SetsTo-counterexample after (number, free, is, same) = set_unset 3 free
-
 -- ---- kinds of words
-
-pub IsKind-plain : IsKind (codes "-") Plain
-IsKind-plain = refl
-
-pub IsKind-end : IsKind (codes "--") End
-IsKind-end = refl
-
-pub IsKind-name : IsKind (codes "--steps") (Name Steps)
-IsKind-name = refl
-
-pub IsKind-assigned : IsKind (codes "--max=2") (Assigned Max (shown (codes "2")))
-IsKind-assigned = refl
 
 -- no option is abbreviated
 short_steps : NamesNot Steps (codes "--step")
 short_steps = (λ same. cc, λ text same. cc)
+
+short_workers : NamesNot Workers (codes "--step")
+short_workers = (
+  λ same. differ 115 119 (omega arith) (ap (λ (word : List ℕ). slice_index word 2) same),
+  λ text same. differ 115 119 (omega arith) (ap (λ (word : List ℕ). slice_index word 2) same),
+)
 
 short_max : NamesNot Max (codes "--step")
 short_max = (
@@ -180,6 +235,7 @@ short_max = (
 )
 
 short_names : (setting : Setting) → NamesNot setting (codes "--step")
+short_names Workers = short_workers
 short_names Steps = short_steps
 short_names Max = short_max
 
@@ -191,10 +247,6 @@ NamesNot-counterexample not = not.1 [] refl
 
 pub IsKind-unknown : IsKind (codes "--step") Unknown
 IsKind-unknown = (refl, λ same. cc, short_names)
-
--- an option is no plain word
-pub IsKind-counterexample : IsKind (codes "--steps") Plain → ⊥
-IsKind-counterexample plain = false≢true (sym plain)
 
 pub options_end-example : is_option options_end ≡ true
 options_end-example = refl
@@ -209,12 +261,6 @@ goal = codes "p"
 
 abbrev plains : List (List ℕ)
 plains = file ∷ goal ∷ []
-
-pub plains_of-example : plains_of (Two (shown file) (shown goal)) ≡ plains
-plains_of-example = refl
-
-pub plains_of-counterexample : plains_of (One (shown file)) ≡ plains_of Nothing → ⊥
-plains_of-counterexample same = cc
 
 pub Sets-nothing : Sets no_settings [] [] no_settings
 Sets-nothing = no_word no_settings
@@ -241,6 +287,12 @@ Sets-between =
     plain_word no_settings after file (codes "--steps=007" ∷ goal ∷ codes "--max" ∷ codes "1" ∷ []) (goal ∷ []) refl
     (in_one_word no_settings after Steps (codes "007") 7 (goal ∷ codes "--max" ∷ codes "1" ∷ []) (goal ∷ []) refl IsNumberOf-example
     (plain_word set after goal (codes "--max" ∷ codes "1" ∷ []) [] refl (in_two_words set after Max (codes "1") 1 [] [] refl IsNumberOf-one (no_word after))))
+
+-- the workers of a module that is grown
+pub Sets-workers : Sets no_settings (codes "2" ∷ codes "--workers=64" ∷ []) (codes "2" ∷ []) (with_setting Workers 64 no_settings)
+Sets-workers =
+    let set : Settings = with_setting Workers 64 no_settings in
+    plain_word no_settings set (codes "2") (codes "--workers=64" ∷ []) [] refl (in_one_word no_settings set Workers (codes "64") 64 [] [] refl IsNumberOf-workers (no_word set))
 
 -- What follows speaks of words that are refused. An option twice:
 pub Sets-twice : (others : List (List ℕ)) (after : Settings) → Sets no_settings (codes "--max" ∷ codes "1" ∷ codes "--max=1" ∷ plains) others after → ⊥
@@ -271,7 +323,7 @@ Sets-no_answer others after sets = let set = opened-name no_settings Max (codes 
 
 -- a number that is too great,
 pub Sets-past : (others : List (List ℕ)) (after : Settings) → Sets no_settings (codes "--max" ∷ codes "1000000001" ∷ plains) others after → ⊥
-Sets-past others after sets = let set = opened-name no_settings Max (codes "1000000001") plains others after sets in IsNumberOf-past Max set.0 set.2
+Sets-past others after sets = let set = opened-name no_settings Max (codes "1000000001") plains others after sets in IsNumberOf-past set.0 set.2
 
 -- an option that there is not,
 pub Sets-unknown : (others : List (List ℕ)) (after : Settings) → Sets no_settings (codes "--step" ∷ codes "7" ∷ plains) others after → ⊥
@@ -282,22 +334,3 @@ pub Sets-counterexample : (others : List (List ℕ)) (after : Settings) → Sets
 Sets-counterexample others after sets same =
     let both = sets-unique no_settings plains plains others no_settings after (Sets-plain no_settings) sets in
     set_unset 3 (sym (ap (λ (settings : Settings). settings.steps) (both.1 ∙ same)))
-
--- ---- what is asked
-
-pub IsSolveOf-example : IsSolveOf plains three_steps (Solve (shown file) (shown goal) 3 None)
-IsSolveOf-example = (refl, refl, refl)
-
--- the number of steps where none is set
-pub IsSolveOf-default : IsSolveOf plains no_settings (Solve (shown file) (shown goal) default_steps None)
-IsSolveOf-default = (refl, refl, refl)
-
-pub IsSolveOf-counterexample : IsSolveOf plains three_steps (Check (shown file)) → ⊥
-IsSolveOf-counterexample other = other
-
-pub IsCheckOf-example : IsCheckOf (file ∷ []) no_settings (Check (shown file))
-IsCheckOf-example = (refl, refl)
-
--- a check takes no options
-pub IsCheckOf-counterexample : IsCheckOf (file ∷ []) three_steps (Check (shown file)) → ⊥
-IsCheckOf-counterexample (is, unset) = set_unset 3 (ap (λ (settings : Settings). settings.steps) unset)

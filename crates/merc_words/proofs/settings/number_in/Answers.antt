@@ -1,17 +1,15 @@
 -- The bytes are digits, and the number is theirs.
 use Rattle.std.proofs.Common.{◌<◌, ◌≤◌, length, ◌+◌, ◌*◌, ◌∙◌, sym, arith}
 use Rattle.std.proofs.lemmas.Bool.Decides.{nat_tests}
-use Rattle.merc_top.specs.Words.{greatest}
-use Rattle.merc_top.proofs.Digits.{digits-all, digits-more, value-all, value-least, value-next}
-use Rattle.merc_top.proofs.words.number_of.Goals as goal
+use Rattle.merc_words.proofs.Digits.{digits-all, digits-more, value-all, value-least, value-next}
+use Rattle.merc_words.proofs.settings.number_in.Goals as goal
 
-pub returns-then-number-gt-GREATEST : goal.returns-then-number-gt-GREATEST
-unfolding greatest
-returns-then-number-gt-GREATEST c = λ number is.
+pub returns-then-number-high : goal.returns-then-number-high
+returns-then-number-high c = λ number is.
     let digit = c.if-not-is_ascii_digit.ensures.cases in
     let least = value-least c.args.text.now c.loop-byte.byte-index c.loop-byte.number (10 * c.loop-byte.number + c.from.result) (omega (arith, c.loop-byte-test.true)) digit.0 digit.1 (omega (arith, c.from.ensures)) c.loop-byte.invariant.value in
-    let most : number ≤ 1000000000 = is.not_more in
-    omega (arith, least, is.value, most, c.if-number-gt-GREATEST.true)
+    let most : number ≤ c.args.high = is.not_more in
+    omega (arith, least, is.value, most, c.if-number-high.true)
 
 pub loop-byte-preserved : goal.loop-byte-preserved
 loop-byte-preserved c =
@@ -21,12 +19,11 @@ loop-byte-preserved c =
     record {
       digits = digits-more c.args.text.now c.loop-byte.byte-index c.loop-byte.number (10 * c.loop-byte.number + c.from.result) within digit.0 digit.1 (omega (arith, c.from.ensures)) kept.digits;
       value = sym (value-next c.args.text.now c.loop-byte.byte-index c.loop-byte.number (10 * c.loop-byte.number + c.from.result) within digit.0 digit.1 (omega (arith, c.from.ensures))) ∙ kept.value;
-      small = omega (arith, c.if-number-gt-GREATEST.false);
+      small = omega (arith, c.if-number-high.false);
     }
 
-pub returns-else-number-least : goal.returns-else-number-least
-unfolding greatest
-returns-else-number-least c =
+pub returns-else-number-low : goal.returns-else-number-low
+returns-else-number-low c =
     let kept = c.loop-byte.invariant in
     let past : length c.args.text.now ≤ c.loop-byte.byte-index = omega (arith, c.loop-byte-test.false) in
     record {
@@ -34,6 +31,6 @@ returns-else-number-least c =
       some = grind (arith, nat_tests, c.if-is_empty.ensures);
       few = omega (arith, c.if-text-gt-DIGIT_LIMIT.false);
       value = value-all c.args.text.now c.loop-byte.byte-index c.loop-byte.number past kept.value;
-      not_less = omega (arith, c.least.ensures, c.if-number-least.false);
+      not_less = omega (arith, c.if-number-low.false);
       not_more = kept.small;
     }
