@@ -190,7 +190,11 @@ fn find_requested(alloc: Global, request: &Request<'_>, text: &Text) -> Result<F
 }
 
 // What is due for a request over a shelf.
-fn find_answer<S: Shelf>(alloc: Global, request: &Request<'_>, shelf: &mut S) -> Result<Found, Trouble>
+fn find_answer<S: Shelf>(
+    alloc: Global,
+    request: &Request<'_>,
+    shelf: &mut S,
+) -> Result<Found, Trouble>
     requires { S.read_faults shelf.old < 18446744073709551615 }
     ensures same { S.files shelf.new ≡ S.files shelf.old }
     ensures finds { (words : List (List ℕ)) → IsRequest words request.now → Finds words (S.files shelf.old) (S.read_faults shelf.old) (S.read_faults shelf.new) result }
