@@ -1,5 +1,5 @@
 //! How a board is made, named and opened.
-ghost use Rattle.std.specs.Prelude.{◌≡◌, ◌≤◌, [], IfOk, All, true};
+ghost use Rattle.std.specs.Prelude.{◌≡◌, ◌≤◌, ◌+◌, ◌*◌, [], length, IfOk, All, true};
 ghost use Rattle.atomic_table.specs.Seated.{TableId};
 ghost use Rattle.merc_yard.specs.declared.spot.Spot.{Spot};
 ghost use Rattle.merc_yard.specs.declared.spot.Purpose.TheVariants.{Ready};
@@ -40,6 +40,9 @@ pub fn new_board<M: Load>(
 ) -> Result<Unnamed<M>, NoMemory>
     requires workers { (1 ≤ workers) × (workers ≤ 64) }
     requires share { share ≤ 1048576 }
+    ensures workers { IfOk result (λ made. made.workers ≡ workers) }
+    ensures share { IfOk result (λ made. made.share ≡ share) }
+    ensures berths { IfOk result (λ made. length made.berths.items ≡ workers * share + 1) }
 {
     let (lot, berths) = open_yard(alloc, workers * share + 1)?;
     Ok(Unnamed {
