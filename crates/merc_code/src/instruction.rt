@@ -3,7 +3,7 @@ ghost use Rattle.std.specs.Prelude.{◌≡◌};
 
 use merc_base::{Name, Sequence};
 use merc_goal_tree::{Comparison, Operation, Symbol, Var, Vars};
-use merc_graded_tree::Procedure;
+use merc_graded_tree::{Procedure, Site};
 use std::marker::Model;
 
 /// A mark of a frame, by its number from 0: a place that holds a number of choice points.
@@ -46,7 +46,8 @@ pub struct Target {
 }
 
 /// One instruction. Variables are the slots of the frame. A jump goes forward, over so many of the instructions that
-/// follow it. An operand without a value fails.
+/// follow it. An operand without a value fails. At a fork, a wait and a signal the code meets others: it goes on once it is
+/// told to.
 #[derive(Drop)]
 pub enum Instruction {
     /// Gives the variable the integer.
@@ -89,4 +90,12 @@ pub enum Instruction {
     Fail,
     /// An answer with the values of the variables. Goes on as `Fail` does.
     Answer(Vars),
+    /// Forks the conjuncts of the site. Goes on once all have ended well, with as many steps less as they made.
+    Fork(Site),
+    /// Gives the variable the value that it is given there.
+    Wait(Var),
+    /// Hands the variable's value on.
+    Signal(Var),
+    /// Ends a conjunct's code.
+    Close,
 }

@@ -5,5 +5,5 @@ pub mod code;
 pub mod instruction;
 pub mod laws;
 
-pub use code::{Code, CompiledProcedure};
+pub use code::{Code, CodeParts, CompiledConjunct, CompiledProcedure};
 pub use instruction::{Instruction, Mark, Target};

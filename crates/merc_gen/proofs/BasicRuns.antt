@@ -11,10 +11,12 @@ use Rattle.merc_meaning.specs.Values.{fields, same}
 use Rattle.merc_meaning.specs.Arithmetic.{Result, Gives, ZeroDivisor, arithmetic, comparison_of}
 use Rattle.merc_meaning.specs.Trace.{Env, Trace, Ends, Answer, Done, Raised}
 use Rattle.merc_meaning.specs.Steps.{value_at, binds, tested, compared, values_at, made_if, filled_if, split, computed, operated, raised}
-use Rattle.merc_meaning.specs.Runs.{Program, called, basic_trace}
+use Rattle.merc_meaning.specs.Runs.{Program}
+use Rattle.merc_course.specs.Courses.{called, basic_course as basic_trace, told, handed_on}
+use Rattle.merc_course.specs.Course.{GoalCourse, whole, left_after}
 use Rattle.merc_code.specs.declared.instruction.Instruction.TheVariants.{Call}
-use Rattle.merc_code.specs.Steps.{Code, Codes, Caller, ChoicePoint, State, At, step, act, Effect, Binds, Fails, Raises, gives, passes, compares, builds, fills, splits, computes, operates, raises, continued}
-use Rattle.merc_code.specs.Meaning.{stops}
+use Rattle.merc_code.specs.Steps.{Code, Codes, Caller, ChoicePoint, State, At, step, act, Effect, Binds, Fails, Raises, gives, passes, compares, builds, fills, splits, computes, operates, raises, continued, signals}
+use Rattle.merc_code.specs.Meaning.{stops, asks, yield_none}
 use Rattle.merc_gen.specs.Generated.{build_code, split_code, basic_code, basic_quiet}
 use Rattle.merc_gen.proofs.Runs.{behind, Runs, Keeps, LeavesNone, keeps-same, same-state, silent, one-runs}
 
@@ -85,20 +87,31 @@ module _ (codes : Codes) where
   split-step whole (TextSymbol text) (x ∷ xs) rest env marks callers B l = refl
 
   effect-runs : (e : Effect) (t : Trace) (m : ℕ) (k : Code) (marks : List ℕ) (callers : List Caller) (l n : ℕ) (st : List ChoicePoint → State) → trace-of e ≡ t
-      → ((B : List ChoicePoint) → step codes (st B) ≡ continued k marks callers B l e) → Runs codes (behind k callers) (Keeps m marks) (LeavesNone true) t l n 0 st
-  effect-runs e t m k marks callers l n st q h = subst (λ u. Runs codes (behind k callers) (Keeps m marks) (LeavesNone true) u l n 0 st) q (by e h)
+      → ((B : List ChoicePoint) → step codes (st B) ≡ continued k marks callers B l e) → Runs codes (behind k callers) (Keeps m marks) (LeavesNone true) (whole t) l n 0 st
+  effect-runs e t m k marks callers l n st q h = subst (λ u. Runs codes (behind k callers) (Keeps m marks) (LeavesNone true) (whole u) l n 0 st) q (by e h)
     where
-      by : (e' : Effect) → ((B : List ChoicePoint) → step codes (st B) ≡ continued k marks callers B l e') → Runs codes (behind k callers) (Keeps m marks) (LeavesNone true) (trace-of e') l n 0 st
+      by : (e' : Effect) → ((B : List ChoicePoint) → step codes (st B) ≡ continued k marks callers B l e') → Runs codes (behind k callers) (Keeps m marks) (LeavesNone true) (whole (trace-of e')) l n 0 st
       by (Binds env) h' = one-runs codes (behind k callers) (Keeps m marks) (LeavesNone true) env marks l n 0 st refl (keeps-same m marks) (λ B p. silent codes _ _ (h' B))
       by Fails h' = λ B p. silent codes _ _ (h' B)
       by (Raises text) h' = λ B p. stops _ _ (h' B)
 
+  signal-runs : (x : ℕ) (o : Option Value) (m : ℕ) (k : Code) (env : Env) (marks : List ℕ) (callers : List Caller) (l n : ℕ) (st : List ChoicePoint → State)
+      → ((B : List ChoicePoint) → step codes (st B) ≡ signals k env marks callers B l x o) → Runs codes (behind k callers) (Keeps m marks) (LeavesNone true) (handed_on env x o) l n 0 st
+  signal-runs x None m k env marks callers l n st h = λ B p. silent codes _ _ (h B)
+  signal-runs x (Some value) m k env marks callers l n st h = (
+    [],
+    (λ r B. At k env marks callers B (left_after l r)),
+    (λ d. yield_none),
+    (λ B q. record { by = λ u v y z. asks _ _ _ _ u v (h B) y z }),
+    λ r. one-runs codes (behind k callers) (Keeps m marks) (LeavesNone true) env marks (left_after l r) n 0 _ refl (keeps-same m marks) (λ B p. same-state codes _ _ refl),
+  )
+
 -- what calls do
-abbrev pub Calls : Codes → (Procedure → Bool) → Program → (Procedure → Env → Trace) → Type 0
+abbrev pub Calls : Codes → (Procedure → Bool) → Program → (Procedure → Env → GoalCourse) → Type 0
 Calls codes single program call = (p : Procedure) (arguments : List ℕ) (m : ℕ) (k : Code) (env : Env) (marks : List ℕ) (callers : List Caller) (l n : ℕ)
     → Runs codes (behind k callers) (Keeps m marks) (LeavesNone (single p)) (called (call p) (program p) arguments env) l n 0 (λ B. At (Call p arguments ∷ k) env marks callers B l)
 
-pub basic-runs : (codes : Codes) (single : Procedure → Bool) (program : Program) (call : Procedure → Env → Trace) → Calls codes single program call
+pub basic-runs : (codes : Codes) (single : Procedure → Bool) (program : Program) (call : Procedure → Env → GoalCourse) → Calls codes single program call
     → (g : BasicGoal) (m : ℕ) (k : Code) (env : Env) (marks : List ℕ) (callers : List Caller) (l n : ℕ)
     → Runs codes (behind k callers) (Keeps m marks) (LeavesNone (basic_quiet single g)) (basic_trace program call g env) l n 0 (λ B. At (basic_code g k) env marks callers B l)
 basic-runs codes single program call h True m k env marks callers l n =
@@ -120,7 +133,11 @@ basic-runs codes single program call h (CompareGoal test one other) m k env mark
 basic-runs codes single program call h (RaiseGoal text) m k env marks callers l n =
     effect-runs codes (raises (value_at env text)) _ m k marks callers l n _ (raises-trace (value_at env text)) (λ B. refl)
 basic-runs codes single program call h (CallGoal p arguments) m k env marks callers l n = h p arguments m k env marks callers l n
-basic-runs codes single program call h (Wait x conjunct) m k env marks callers l n =
-    one-runs codes (behind k callers) (Keeps m marks) (LeavesNone true) env marks l n 0 _ refl (keeps-same m marks) (λ B p. same-state codes _ _ refl)
-basic-runs codes single program call h (Signal x conjunct) m k env marks callers l n =
-    one-runs codes (behind k callers) (Keeps m marks) (LeavesNone true) env marks l n 0 _ refl (keeps-same m marks) (λ B p. same-state codes _ _ refl)
+basic-runs codes single program call h (Wait x conjunct) m k env marks callers l n = (
+  [],
+  (λ r B. At k (told env x r) marks callers B (left_after l r)),
+  (λ d. yield_none),
+  (λ B q. record { by = λ u v y z. asks _ _ _ _ u v refl y z }),
+  λ r. one-runs codes (behind k callers) (Keeps m marks) (LeavesNone true) (told env x r) marks (left_after l r) n 0 _ refl (keeps-same m marks) (λ B p. same-state codes _ _ refl),
+)
+basic-runs codes single program call h (Signal x conjunct) m k env marks callers l n = signal-runs codes x (value_at env x) m k env marks callers l n _ (λ B. refl)

@@ -4,13 +4,17 @@ use Rattle.std.specs.Option.{option_map}
 use Rattle.merc_tree.specs.declared.declarations.Arg.{Arg}
 use Rattle.merc_graded_tree.specs.declared.basic.Procedure.{Procedure}
 use Rattle.merc_graded_tree.specs.Nodes.{Node, node}
-use Rattle.merc_meaning.specs.Trace.{Env, Trace, Ends, Tick, Answer, Done, Raised, TooDeep, taken_back}
+use Rattle.merc_meaning.specs.Trace.{Env, Done, Raised, TooDeep}
+use Rattle.merc_course.specs.Course.{GoalCourse as Trace, Ends, Tick, Answer, taken_back, Meets, left_after}
 use Rattle.merc_meaning.specs.Steps.{value_at, entered, brought_back}
-use Rattle.merc_meaning.specs.Runs.{Program, ProcedureBody, answers_once, called, node_trace, body_trace, call_trace}
+use Rattle.merc_meaning.specs.Runs.{Program, ProcedureBody, answers_once}
+use Rattle.merc_course.specs.Courses.{called, node_course as node_trace, body_course as body_trace, call_course as call_trace}
 use Rattle.merc_code.specs.declared.instruction.Instruction.TheVariants.{Call, Return}
 use Rattle.merc_code.specs.Steps.{Code, Codes, Caller, caller, ChoicePoint, State, At, enters}
 use Rattle.merc_code.specs.Meaning.{stops, moves, ticks}
-use Rattle.merc_gen.specs.Generated.{is_once, is_single, quiet, node_quiet, node_code, procedure_code, codes_of}
+use Rattle.merc_gen.specs.Sites.{Sites}
+use Rattle.merc_gen.specs.Generated.{is_once, is_single, quiet, node_quiet, node_code, procedure_code, codes_of, conjunct_codes}
+use Rattle.merc_gen.specs.Sited.{IsSitedBody, IsSitedProgram}
 use Rattle.merc_gen.proofs.Runs.{behind, Runs, Keeps, LeavesNone, keeps-same, silent, late}
 use Rattle.merc_gen.proofs.BasicRuns.{Calls}
 use Rattle.merc_gen.proofs.GoalRuns.{node-runs}
@@ -33,6 +37,8 @@ return-runs codes k0 k env marks places arguments callers Ok1 Ok L1 L o w (Answe
   (λ B q. record { by = λ u y. (r.4 B q).by u (moves _ _ u refl y) }),
   λ l'. return-runs codes k0 k env marks places arguments callers Ok1 Ok L1 L o w t l' n 0 _ (r.5 l'),
 )
+return-runs codes k0 k env marks places arguments callers Ok1 Ok L1 L o w (Meets what ks f) l n j st r =
+    (r.0, r.1, r.2, r.3, λ x. return-runs codes k0 k env marks places arguments callers Ok1 Ok L1 L o w (f x) (left_after l x) n 0 (r.1 x) (r.4 x))
 
 -- a procedure whose body answers once leaves nothing: its body's own node says so
 once-quiet : (single : Procedure → Bool) (body : Node) (X : List ChoicePoint) → LeavesNone (node_quiet single body) X → LeavesNone (is_once body) X
@@ -44,17 +50,18 @@ once-quiet single (node g outputs category span) X e = by (answers_once outputs 
 
 module _ (codes : Codes) (single : Procedure → Bool) (p : Procedure) (arguments : List ℕ) (m : ℕ) (k : Code) (env : Env) (marks : List ℕ) (callers : List Caller) (n : ℕ) where
   -- a call that is not followed: the procedure that is not there fails
-  deep-runs : (o : Option ProcedureBody) (l : ℕ) → codes p ≡ option_map (procedure_code single) o
+  deep-runs : (o : Option ProcedureBody) (l : ℕ) → codes.procedures p ≡ option_map (procedure_code single) o
       → Runs codes (behind k callers) (Keeps m marks) (LeavesNone (is_single o)) (called (λ inner. Ends TooDeep) o arguments env) l n 0 (λ B. At (Call p arguments ∷ k) env marks callers B l)
   deep-runs None l e = λ B q. silent codes _ _ (ap (λ x. enters x k env marks arguments callers B l) e)
   deep-runs (Some procedure) l e = tt
 
-  body-runs : (program : Program) (call : Procedure → Env → Trace) → Calls codes single program call → (o : Option ProcedureBody) (l : ℕ) → codes p ≡ option_map (procedure_code single) o
+  body-runs : (program : Program) (call : Procedure → Env → Trace) → Calls codes single program call → (sites : Sites) → ((site : ℕ) → codes.conjuncts site ≡ conjunct_codes single (sites site))
+      → (o : Option ProcedureBody) → IsSitedBody sites o → (l : ℕ) → codes.procedures p ≡ option_map (procedure_code single) o
       → Runs codes (behind k callers) (Keeps m marks) (LeavesNone (is_single o)) (called (λ inner. Tick (body_trace program call o inner)) o arguments env) l n 0
       (λ B. At (Call p arguments ∷ k) env marks callers B l)
-  body-runs program call calls None l e = λ B q. silent codes _ _ (ap (λ x. enters x k env marks arguments callers B l) e)
-  body-runs program call calls (Some procedure) zero e = λ B q. stops _ _ (ap (λ x. enters x k env marks arguments callers B zero) e)
-  body-runs program call calls (Some procedure) (suc l) e =
+  body-runs program call calls sites sited None h l e = λ B q. silent codes _ _ (ap (λ x. enters x k env marks arguments callers B l) e)
+  body-runs program call calls sites sited (Some procedure) h zero e = λ B q. stops _ _ (ap (λ x. enters x k env marks arguments callers B zero) e)
+  body-runs program call calls sites sited (Some procedure) h (suc l) e =
       let inner = entered procedure.places arguments env in
       late codes (behind k callers) (Keeps m marks) (LeavesNone (is_once procedure.body))
       (taken_back (λ x. brought_back procedure.places arguments (value_at x) env) (node_trace program call procedure.body inner)) l n 0 1 1 _
@@ -62,10 +69,10 @@ module _ (codes : Codes) (single : Procedure → Bool) (p : Procedure) (argument
       (λ B q. record { by = λ u y. ticks _ _ u (ap (λ x. enters x k env marks arguments callers B (suc l)) e) y })
       (return-runs codes [] k env marks procedure.places arguments callers (Keeps 0 []) (Keeps m marks) (LeavesNone (node_quiet single procedure.body)) (LeavesNone (is_once procedure.body))
       (keeps-same m marks) (once-quiet single procedure.body) (node_trace program call procedure.body inner) l n 0 _
-      (node-runs codes single program call calls procedure.body 0 (Return ∷ []) inner [] (caller k env marks procedure.places arguments ∷ callers) l n))
+      (node-runs codes single program call calls sites sited procedure.body h 0 (Return ∷ []) inner [] (caller k env marks procedure.places arguments ∷ callers) l n))
 
 -- every call, by induction on the depth
-pub call-runs : (program : Program) (depth : ℕ) → Calls (codes_of program) (λ p. is_single (program p)) program (call_trace program depth)
-call-runs program zero p arguments m k env marks callers l n = deep-runs (codes_of program) (λ q. is_single (program q)) p arguments m k env marks callers n (program p) l refl
-call-runs program (suc depth) p arguments m k env marks callers l n =
-    body-runs (codes_of program) (λ q. is_single (program q)) p arguments m k env marks callers n program (call_trace program depth) (call-runs program depth) (program p) l refl
+pub call-runs : (program : Program) (sites : Sites) → IsSitedProgram sites program → (depth : ℕ) → Calls (codes_of program sites) (λ p. is_single (program p)) program (call_trace program depth)
+call-runs program sites h zero p arguments m k env marks callers l n = deep-runs (codes_of program sites) (λ q. is_single (program q)) p arguments m k env marks callers n (program p) l refl
+call-runs program sites h (suc depth) p arguments m k env marks callers l n =
+    body-runs (codes_of program sites) (λ q. is_single (program q)) p arguments m k env marks callers n program (call_trace program depth) (call-runs program sites h depth) sites (λ site. refl) (program p) (h.bodies p) l refl

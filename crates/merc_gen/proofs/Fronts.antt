@@ -1,10 +1,11 @@
 -- A goal's code in front of what follows is its code in front of nothing, and then what follows.
-use Rattle.std.proofs.Common.{◌≡◌, ℕ, suc, Bool, true, false, not, ◌&&◌, [], ◌∷◌, ◌++◌, length, drop, refl, sym, ap, ◌∙◌, if◌then◌else◌}
+use Rattle.std.proofs.Common.{◌≡◌, ℕ, suc, Bool, true, false, not, ◌&&◌, [], ◌∷◌, ◌++◌, length, drop, refl, sym, ap, ◌∙◌, if◌then◌else◌, Some, None}
 use Rattle.std.proofs.lemmas.List.{append_assoc}
 use Rattle.std.proofs.Math.Seq.{drop-append_seam}
 use Rattle.merc_graded_tree.specs.declared.basic.BasicGoal.{BasicGoal}
 use Rattle.merc_graded_tree.specs.declared.basic.BasicGoal.TheVariants.{True, Fail as FailGoal, Assign, Test as TestGoal, Build as BuildGoal, Split as SplitGoal, Arithmetic as ArithmeticGoal, Compare as CompareGoal, Raise as RaiseGoal, Call as CallGoal, Wait, Signal}
 use Rattle.merc_graded_tree.specs.declared.basic.Procedure.{Procedure}
+use Rattle.merc_graded_tree.specs.declared.entries.Running.TheVariants.{Sequential, Parallel}
 use Rattle.merc_graded_tree.specs.Nodes.{Node, node, Goal, Basic, Conjunction, Disjunction, Switch as SwitchGoal, Conditional, Negation, Quantified, Nodes, no_nodes, more_nodes, Arms, no_arms, more_arms}
 use Rattle.merc_meaning.specs.Runs.{answers_once}
 use Rattle.merc_code.specs.declared.instruction.Instruction.{Instruction}
@@ -56,7 +57,9 @@ module _ (single : Procedure → Bool) where
   mutual
     pub goal-front : (g : Goal) (m : ℕ) (rest : Code) → goal_code single g m rest ≡ goal_code single g m [] ++ rest
     goal-front (Basic g) m rest = basic-front g rest
-    goal-front (Conjunction running ns) m rest = all-front ns m rest
+    goal-front (Conjunction Sequential ns) m rest = all-front ns m rest
+    goal-front (Conjunction (Parallel None) ns) m rest = all-front ns m rest
+    goal-front (Conjunction (Parallel (Some site)) ns) m rest = refl
     goal-front (Disjunction ns) m rest = disjuncts-front ns m rest
     goal-front (SwitchGoal x arms) m rest = ap (λ k. Switch x (targets single arms m 0) ∷ k) (arms-front arms m rest)
     goal-front (Conditional c t e) m rest =

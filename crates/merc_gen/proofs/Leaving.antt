@@ -3,7 +3,8 @@ use Rattle.std.proofs.Common.{◌≡◌, ℕ, zero, suc, ◌-◌, ◌==◌, Bool
 use Rattle.std.proofs.lemmas.List.{append_assoc, append-nil, length-append}
 use Rattle.std.proofs.Math.Seq.{drop-append_seam}
 use Rattle.std.proofs.lemmas.Bool.{eq-eqb, ne_eqb}
-use Rattle.merc_meaning.specs.Trace.{Env, Trace, Ends, Tick, Answer, Done, Raised, TooDeep, first_alone, choose, negated}
+use Rattle.merc_meaning.specs.Trace.{Env, Done, Raised, TooDeep}
+use Rattle.merc_course.specs.Course.{GoalCourse as Trace, Ends, Tick, Answer, first_alone, choose, negated, Meets, left_after}
 use Rattle.merc_code.specs.declared.instruction.Instruction.TheVariants.{Commit, Soften, Fail}
 use Rattle.merc_code.specs.Steps.{Code, Codes, Caller, ChoicePoint, Dead, GoesOn, State, At, Back, Moves, mark_at, oldest, softened}
 use Rattle.merc_code.specs.Meaning.{moves}
@@ -55,6 +56,7 @@ module _ (codes : Codes) (m : ℕ) (k : Code) (callers : List Caller) (before : 
       let e' : mark_at r.1 m ≡ n = (r.3.at m (omega arith) ∙ e) in
       one-runs codes (behind k callers) (Keeps (suc m) before) (LeavesNone true) env r.1 l n j st refl r.3
       (λ B q. record { by = λ u y. (r.4 B q).by u (moves _ _ u (ap (λ Z. Moves (At k env r.1 callers Z l)) (committed r.0 B (mark_at r.1 m) (e' ∙ sym q))) y) })
+  commit-runs L (Meets what ks f) l n j st e r = (r.0, r.1, r.2, r.3, λ x. commit-runs L (f x) (left_after l x) n 0 (r.1 x) e (r.4 x))
 
   -- a negated goal over the choice point with which what follows goes on
   pub negated-runs : (env0 : Env) (L : List ChoicePoint → Type 0) (t : Trace) (l n j : ℕ) (st : List ChoicePoint → State) → mark_at before m ≡ n
@@ -73,6 +75,8 @@ module _ (codes : Codes) (m : ℕ) (k : Code) (callers : List Caller) (before : 
         by = λ u y. (r.4 (GoesOn k env0 before callers ∷ B) (ap suc q)).by u
             (moves _ _ u (ap (λ Z. Moves (At (Fail ∷ k) env r.1 callers Z l)) (committed-over r.0 (GoesOn k env0 before callers) B (mark_at r.1 m) (e' ∙ sym q))) (moves _ _ u refl y));
       }
+  negated-runs env0 L (Meets what ks f) l n j st e r =
+      (r.0, (λ x B. r.1 x (GoesOn k env0 before callers ∷ B)), r.2, (λ B q. r.3 (GoesOn k env0 before callers ∷ B) (ap suc q)), λ x. negated-runs env0 L (f x) (left_after l x) n 0 (r.1 x) e (r.4 x))
 
   -- a condition that has answered, over the choice point that only fails
   soft-rest : (L : List ChoicePoint → Type 0) (t : Trace) (l n j : ℕ) (st : List ChoicePoint → State) → mark_at before m ≡ n
@@ -97,6 +101,8 @@ module _ (codes : Codes) (m : ℕ) (k : Code) (callers : List Caller) (before : 
             (λ B q. same-state codes _ _ (ap (λ Z. Back Z l') (append_assoc r.0 (Dead ∷ []) B)))
             (soft-rest L t l' n 0 (λ C. Back (r.0 ++ C) l') e (r.5 l')),
       )
+  soft-rest L (Meets what ks f) l n j st e r =
+      (r.0, (λ x B. r.1 x (Dead ∷ B)), r.2, (λ B q. r.3 (Dead ∷ B) (ap suc q)), λ x. soft-rest L (f x) (left_after l x) n 0 (r.1 x) e (r.4 x))
 
   -- Given are the exit of a conditional, where it goes on without an answer, and what both parts do.
   module _ (out : Exit) (Ok : List ℕ → Type 0) (W : List ChoicePoint → Type 0) (env0 : Env) (others : Code) (f : Env → Trace) (v : Trace) (n : ℕ) (e : mark_at before m ≡ n)
@@ -128,6 +134,8 @@ module _ (codes : Codes) (m : ℕ) (k : Code) (callers : List Caller) (before : 
               (λ B q. same-state codes _ _ (ap (λ Z. Back Z l') (append_assoc r.0 (Dead ∷ []) B)))
               (soft-rest L t l' n 0 (λ C. Back (r.0 ++ C) l') e (r.5 l')),
         )
+    choose-soft h' L (Meets what ks t) l j st r =
+        (r.0, (λ x B. r.1 x (GoesOn others env0 before callers ∷ B)), r.2, (λ B q. r.3 (GoesOn others env0 before callers ∷ B) (ap suc q)), λ x. choose-soft h' L (t x) (left_after l x) 0 (r.1 x) (r.4 x))
 
     -- a condition that answers once
     pub choose-hard : (L : List ChoicePoint → Type 0) (t : Trace) (l j : ℕ) (st : List ChoicePoint → State)
@@ -148,3 +156,5 @@ module _ (codes : Codes) (m : ℕ) (k : Code) (callers : List Caller) (before : 
           by = λ u y. (r.4 (GoesOn others env0 before callers ∷ B) (ap suc q)).by u
               (moves _ _ u (ap (λ Z. Moves (At k env r.1 callers Z l)) (committed-over r.0 (GoesOn others env0 before callers) B (mark_at r.1 m) (e' ∙ sym q))) y);
         }))
+    choose-hard L (Meets what ks t) l j st r =
+        (r.0, (λ x B. r.1 x (GoesOn others env0 before callers ∷ B)), r.2, (λ B q. r.3 (GoesOn others env0 before callers ∷ B) (ap suc q)), λ x. choose-hard L (t x) (left_after l x) 0 (r.1 x) (r.4 x))

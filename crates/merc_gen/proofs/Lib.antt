@@ -7,6 +7,7 @@ pub mod GoalRuns
 pub mod CallRuns
 pub mod Depths
 pub mod Theorem
+pub mod Alone
 pub mod OneRun
 pub mod Lists
 pub mod Procedures
@@ -14,3 +15,6 @@ pub mod Quieting
 pub mod Performing
 pub mod Parting
 pub mod Switching
+pub mod Walks
+pub mod Calling
+pub mod Numbered

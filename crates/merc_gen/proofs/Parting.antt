@@ -1,11 +1,14 @@
 -- Goals one after the other, disjuncts and negations, taken from the last to the first.
-use Rattle.std.specs.Prelude.{◌≡◌, ◌+◌, ◌-◌, ℕ, suc, Bool, false, if◌then◌else◌, List, [], ◌∷◌, ◌++◌, length, refl}
-use Rattle.std.proofs.Common.{◌∙◌, ap, sym, arith}
+use Rattle.std.specs.Prelude.{◌≡◌, ◌+◌, ◌-◌, ℕ, suc, Bool, false, if◌then◌else◌, List, [], ◌∷◌, ◌++◌, length, Option, Some, None, refl}
+use Rattle.std.proofs.Common.{◌∙◌, ap, sym, subst, arith}
 use Rattle.std.proofs.lemmas.List.{append_assoc, length-append}
 use Rattle.merc_graded_tree.specs.declared.basic.Procedure.{Procedure}
+use Rattle.merc_graded_tree.specs.declared.basic.Site.{Site}
 use Rattle.merc_graded_tree.specs.declared.entries.Running.{Running}
+use Rattle.merc_graded_tree.specs.declared.entries.Running.TheVariants.{Sequential, Parallel}
 use Rattle.merc_graded_tree.specs.Nodes.{Node, node, Conjunction, Disjunction, Conditional, Negation, Quantified, goal_of, nodes_of}
 use Rattle.merc_code.specs.declared.instruction.Instruction.TheVariants.{Jump, Try, Mark, Commit, Fail}
+use Rattle.merc_course.specs.Alone.{ForksNothing}
 use Rattle.merc_code.specs.Steps.{Code}
 use Rattle.merc_gen.specs.Generated.{are_none, goal_code, node_code, condition_code, negated_code, all_code, any_code}
 use Rattle.merc_gen.specs.Tasks.{Performs, arm_code, disjunct_code, disjuncts_code, decided_code, in_turn_code}
@@ -24,6 +27,14 @@ some_left (first ∷ rest) last = refl
 pub turns-last : (goals left : List Node) (last : Node) → goals ≡ left ++ last ∷ [] → list_turns goals ≡ suc (suc (suc (node_turns last + list_turns left)))
 turns-last goals left last e = omega (arith, ap list_turns e, quieting.turns-append left (last ∷ []))
 
+-- goals that are not forked
+
+pub alone : (site : Option Site) → site ≡ None → ForksNothing (Parallel site)
+alone site e = subst (λ s. ForksNothing (Parallel s)) (sym e) tt
+
+pub in_order : (running : Running) → running ≡ Sequential → ForksNothing running
+in_order running e = subst ForksNothing (sym e) tt
+
 module _ (single : Procedure → Bool) where
   -- one after the other
 
@@ -35,11 +46,18 @@ module _ (single : Procedure → Bool) where
   in_turn-last [] last mark code = refl
   in_turn-last (first ∷ rest) last mark code = ap (node_code single first mark) (in_turn-last rest last mark code)
 
-  pub conjuncts_start : (running : Running) (goals : List Node) (mark : ℕ) (tasks later : List Task) (code : Code) → later ≡ tasks ++ InTurn goals mark ∷ []
-      → Performs single (goal_code single (Conjunction running (nodes_of goals)) mark) (goal_turns (Conjunction running (nodes_of goals))) tasks code later code
-  conjuncts_start running goals mark tasks later code e =
+  in_turn_start : (goals : List Node) (mark : ℕ) (tasks later : List Task) (code : Code) → later ≡ tasks ++ InTurn goals mark ∷ []
+      → Performs single (all_code single (nodes_of goals) mark) (suc (joined_turns (nodes_of goals))) tasks code later code
+  in_turn_start goals mark tasks later code e =
       performs single (all_code single (nodes_of goals) mark) (suc (joined_turns (nodes_of goals))) tasks later (InTurn goals mark ∷ []) code code e
       (in_turn_is goals mark code) (omega (arith, turns-joined goals))
+
+  -- goals that are not forked
+  pub conjuncts_start : (running : Running) (goals : List Node) (mark : ℕ) (tasks later : List Task) (code : Code) → ForksNothing running → later ≡ tasks ++ InTurn goals mark ∷ []
+      → Performs single (goal_code single (Conjunction running (nodes_of goals)) mark) (goal_turns (Conjunction running (nodes_of goals))) tasks code later code
+  conjuncts_start Sequential goals mark tasks later code h e = in_turn_start goals mark tasks later code e
+  conjuncts_start (Parallel None) goals mark tasks later code h e = in_turn_start goals mark tasks later code e
+  conjuncts_start (Parallel (Some site)) goals mark tasks later code h e = absurd h
 
   pub in_turn_step : (goals left : List Node) (last : Node) (mark : ℕ) (tasks later : List Task) (code : Code) → goals ≡ left ++ last ∷ []
       → later ≡ tasks ++ InTurn left mark ∷ Emit last mark ∷ [] → Performs single (in_turn_code single mark goals) (list_turns goals) tasks code later code

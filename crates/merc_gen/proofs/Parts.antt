@@ -2,11 +2,14 @@
 use Rattle.std.proofs.Common.{◌≡◌, ℕ, suc, ◌+◌, Bool, true, false, not, ◌&&◌, List, [], ◌∷◌, ◌++◌, length, drop, Option, Some, None, refl, sym, ap, ◌∙◌, subst, arith, if◌then◌else◌}
 use Rattle.std.specs.Option.{is_some}
 use Rattle.std.proofs.lemmas.List.{drop-drop}
+use mathlib.Core.Path.{fun_ext}
 use Rattle.merc_graded_tree.specs.declared.basic.Procedure.{Procedure}
 use Rattle.merc_graded_tree.specs.Nodes.{Nodes, no_nodes, more_nodes, Arms, no_arms, more_arms}
 use Rattle.merc_value.specs.Value.{Value, Values}
-use Rattle.merc_meaning.specs.Trace.{Env, Trace, Ends, Tick, Answer, Done, Raised, TooDeep, after, first_alone, choose, negated}
-use Rattle.merc_meaning.specs.Runs.{Program, once_if, where_some, any_trace, arms_trace}
+use Rattle.merc_meaning.specs.Trace.{Env, Done, Raised, TooDeep}
+use Rattle.merc_course.specs.Course.{GoalCourse as Trace, Ends, Tick, Answer, after, first_alone, choose, negated, Meets, Reply}
+use Rattle.merc_meaning.specs.Runs.{Program}
+use Rattle.merc_course.specs.Courses.{once_if, where_some, any_course as any_trace, arms_course as arms_trace}
 use Rattle.merc_code.specs.declared.instruction.Instruction.{Instruction}
 use Rattle.merc_code.specs.declared.instruction.Instruction.TheVariants.{Jump, Try, Mark, Commit, Fail}
 use Rattle.merc_code.specs.Steps.{Code, Codes, Caller, ChoicePoint, GoesOn, State, At, Moves, step, marked, switches, target_of, target_at}
@@ -30,6 +33,7 @@ after-done (Ends (Raised v)) = refl
 after-done (Ends TooDeep) = refl
 after-done (Tick t) = ap Tick (after-done t)
 after-done (Answer env t) = ap (λ x. Answer env x) (after-done t)
+after-done (Meets what ks f) = ap (λ x. Meets what ks x) (fun_ext (λ (r : Reply). after-done (f r)))
 
 pub negated-once : (b : Bool) (env : Env) (t : Trace) → negated env (once_if b t) ≡ negated env t
 negated-once false env t = refl
@@ -38,6 +42,7 @@ negated-once true env (Ends (Raised v)) = refl
 negated-once true env (Ends TooDeep) = refl
 negated-once true env (Tick t) = ap Tick (negated-once true env t)
 negated-once true env (Answer answer t) = refl
+negated-once true env (Meets what ks f) = ap (λ x. Meets what ks x) (fun_ext (λ (r : Reply). negated-once true env (f r)))
 
 -- a node: mark and commit where the goal may leave something, nothing else
 pub framed-runs : (codes : Codes) (once q : Bool) (f : ℕ → Code → Code) (t : Trace) (m : ℕ) (k : Code) (env : Env) (marks : List ℕ) (callers : List Caller) (l n : ℕ)

@@ -1,15 +1,16 @@
--- The procedures of predicates in order, and those that are found by number.
-use Rattle.std.proofs.Common.{◌≡◌, refl, ap, ◌∙◌, ℕ, zero, suc, Bool, false, List, [], ◌∷◌, length, drop, map, slice_get, slice_index_or, Option, Some, None, option_map}
+-- The procedures of predicates in order, and those that are found by number; and so the conjuncts of sites.
+use Rattle.std.proofs.Common.{◌≡◌, refl, ap, sym, ◌∙◌, ℕ, zero, suc, Bool, false, List, [], ◌∷◌, length, drop, map, slice_get, slice_index_or, Option, Some, None, option_map}
 use Rattle.std.proofs.lemmas.Option.{slice_get-map}
 use Rattle.merc_tree.specs.declared.declarations.ModeDecl.{ModeDecl}
 use Rattle.merc_tree.specs.declared.declarations.PredDecl.{PredDecl}
 use Rattle.merc_graded_tree.specs.declared.basic.Procedure.{Procedure}
-use Rattle.merc_graded_tree.specs.Nodes.{Node}
+use Rattle.merc_graded_tree.specs.Nodes.{Node, Nodes, no_nodes}
 use Rattle.merc_meaning.specs.Runs.{ProcedureBody}
 use Rattle.merc_meaning.specs.Programs.{body_of_mode, body_of, program_with}
-use Rattle.merc_code.specs.Steps.{ProcedureCode}
-use Rattle.merc_code.specs.ProgramCode.{ProgramCode, in_mode, codes_in}
-use Rattle.merc_gen.specs.Generated.{is_single, procedure_code, codes_of}
+use Rattle.merc_code.specs.Steps.{ProcedureCode, ConjunctCode, Codes}
+use Rattle.merc_code.specs.ProgramCode.{ProgramCode, in_mode, forked_there, codes_in}
+use Rattle.merc_gen.specs.Generated.{is_single, procedure_code, conjunct_codes, codes_of}
+use Rattle.merc_gen.specs.Sites.{Sites, nodes_there, conjuncts_at}
 use Rattle.merc_gen.specs.Procedures.{mode_bodies, program_bodies, answer_once}
 use Rattle.merc_gen.specs.Singles.{at_mode, contained}
 use mathlib.Core.Path.{fun_ext}
@@ -64,8 +65,23 @@ codes_same code predicates trees p =
 pub procedures_generated : (predicates : List PredDecl) (trees : List Node) (singles : List (List Bool)) (code : ProgramCode)
     → singles ≡ map answer_once (program_bodies predicates trees)
     → code.procedures ≡ map (map (procedure_code (contained singles))) (program_bodies predicates trees)
-    → (procedure : Procedure) → codes_in code procedure ≡ codes_of (program_with predicates trees) procedure
-procedures_generated predicates trees singles code e same procedure =
+    → (sites : Sites) (procedure : Procedure) → Codes.procedures (codes_in code) procedure ≡ Codes.procedures (codes_of (program_with predicates trees) sites) procedure
+procedures_generated predicates trees singles code e same sites procedure =
     ap (λ (l : List (List ProcedureCode)). in_mode (slice_get l procedure.predicate) procedure.mode) same
     ∙ codes_same (procedure_code (contained singles)) predicates trees procedure
     ∙ ap (λ (single : Procedure → Bool). option_map (procedure_code single) (program_with predicates trees procedure)) (singles_same predicates trees singles e)
+
+-- The code of conjuncts.
+
+forked_at_site : (code : Nodes → List ConjunctCode) (o : Option Nodes) → code no_nodes ≡ [] → forked_there (option_map code o) ≡ code (nodes_there o)
+forked_at_site code None e = sym e
+forked_at_site code (Some goals) e = refl
+
+pub conjuncts_generated : (predicates : List PredDecl) (trees : List Node) (singles : List (List Bool)) (code : ProgramCode) (forked : List Nodes)
+    → singles ≡ map answer_once (program_bodies predicates trees) → code.conjuncts ≡ map (conjunct_codes (contained singles)) forked
+    → (site : ℕ) → Codes.conjuncts (codes_in code) site ≡ Codes.conjuncts (codes_of (program_with predicates trees) (conjuncts_at forked)) site
+conjuncts_generated predicates trees singles code forked e same site =
+    ap (λ (l : List (List ConjunctCode)). forked_there (slice_get l site)) same
+    ∙ ap forked_there (slice_get-map (conjunct_codes (contained singles)) forked site)
+    ∙ forked_at_site (conjunct_codes (contained singles)) (slice_get forked site) refl
+    ∙ ap (λ (single : Procedure → Bool). conjunct_codes single (conjuncts_at forked site)) (singles_same predicates trees singles e)

@@ -34,7 +34,7 @@ pub turns-append : (front back : List Node) → list_turns (front ++ back) ≡ l
 turns-append [] back = omega arith
 turns-append (first ∷ rest) back = let h = turns-append rest back in omega (arith, h)
 
-turns-reverse : (goals : List Node) → list_turns (reverse goals) ≡ list_turns goals
+pub turns-reverse : (goals : List Node) → list_turns (reverse goals) ≡ list_turns goals
 turns-reverse [] = refl
 turns-reverse (first ∷ rest) =
     let h = turns-reverse rest in omega (arith, h, ap list_turns (reverse-first first rest), turns-append (reverse rest) (first ∷ []))

@@ -1,9 +1,11 @@
 -- What a piece of code does over every list of choice points of one length, and how such pieces are joined.
 use Rattle.std.proofs.Common.{◌≡◌, ℕ, zero, suc, ◌+◌, ◌<◌, ◌≤◌, Bool, true, false, ◌&&◌, List, [], ◌∷◌, ◌++◌, length, refl, sym, ap, ◌∙◌, subst, arith}
 use Rattle.std.proofs.lemmas.List.{append_assoc, length-append}
-use Rattle.merc_meaning.specs.Trace.{Env, Trace, Run, Ends, Tick, Answer, Done, Raised, TooDeep, RunRaised, LimitPassed, after, each, first_alone}
+use Rattle.merc_meaning.specs.Trace.{Env, Done, Raised, TooDeep, RunEnd, RunRaised, LimitPassed}
+use Rattle.merc_course.specs.Course.{GoalCourse as Trace, RunCourse as Run, Ends, Tick, Answer, after, each, first_alone, Meets, Meeting, Reply, Courses, cut_all, left_after}
+use Rattle.merc_gen.proofs.Depths.{ReachesAll}
 use Rattle.merc_code.specs.Steps.{Code, Codes, Caller, ChoicePoint, State, At, Back, Moves, step, mark_at, marked}
-use Rattle.merc_code.specs.Meaning.{Yields, moves}
+use Rattle.merc_code.specs.Meaning.{Yields, YieldAll, moves}
 
 -- so many steps before a run
 abbrev pub bulk : ℕ → Run → Run
@@ -13,6 +15,10 @@ bulk (suc count) run = bulk count (Tick run)
 -- from one state to another with so many steps that count
 pub record Comes (codes : Codes) (count : ℕ) (state next : State) : Type 0 where
   pub by : (run : Run) → Yields codes next run → Yields codes state (bulk count run)
+
+-- from one state to a place at which it meets others, with so many steps that count
+pub record ComesTo (codes : Codes) (count : ℕ) (state : State) (what : Meeting) (forked : List State) (next : Reply → State) : Type 0 where
+  pub by : (courses : Courses RunEnd) (runs : Reply → Run) → YieldAll codes forked courses → ((r : Reply) → Yields codes (next r) (runs r)) → Yields codes state (bulk count (Meets what courses runs))
 
 -- the state behind a goal: values, marks, choice points, steps that are left
 abbrev pub Exit : Type 0
@@ -32,6 +38,10 @@ Runs codes out Ok Left (Tick t) (suc l) n j st = Runs codes out Ok Left t l n (s
 Runs codes out Ok Left (Answer env t) l n j st =
     (X : List ChoicePoint) × (marks : List ℕ) × Left X × Ok marks × ((B : List ChoicePoint) → length B ≡ n → Comes codes j (st B) (out env marks (X ++ B) l))
     × ((l' : ℕ) → Runs codes out Ok Left t l' n 0 (λ B. Back (X ++ B) l'))
+Runs codes out Ok Left (Meets what ks f) l n j st =
+    (forked : List State) × (next : Reply → List ChoicePoint → State) × (ReachesAll (suc l) ks → YieldAll codes forked (cut_all l ks))
+    × ((B : List ChoicePoint) → length B ≡ n → ComesTo codes j (st B) what forked (λ r. next r B))
+    × ((r : Reply) → Runs codes out Ok Left (f r) (left_after l r) n 0 (next r))
 
 -- the marks below this one are as before
 pub record Keeps (m : ℕ) (before now : List ℕ) : Type 0 where
@@ -105,6 +115,8 @@ module _ (codes : Codes) (out : Exit) (Ok : List ℕ → Type 0) where
   late Left (Tick t) (suc l) n i j m st st' e c r = late Left t l n (suc i) j (suc m) st st' (omega (arith, e)) c r
   late Left (Answer env t) l n i j m st st' e c r =
       (r.0, r.1, r.2, r.3, (λ B q. record { by = λ u y. subst (λ x. Yields codes (st B) x) (bulk-bulk i j m u e) ((c B q).by _ ((r.4 B q).by u y)) }), r.5)
+  late Left (Meets what ks f) l n i j m st st' e c r =
+      (r.0, r.1, r.2, (λ B q. record { by = λ u v y z. subst (λ x. Yields codes (st B) x) (bulk-bulk i j m (Meets what u v) e) ((c B q).by _ ((r.3 B q).by u v y z)) }), r.4)
 
   -- one answer, and no choice point
   pub one-runs : (Left : List ChoicePoint → Type 0) (env : Env) (marks : List ℕ) (l n j : ℕ) (st : List ChoicePoint → State) → Left [] → Ok marks
@@ -131,6 +143,8 @@ module _ (codes : Codes) (out : Exit) (Ok : List ℕ → Type 0) where
             (λ B q. same-state codes _ _ (ap (λ Z. Back Z l') (append_assoc Y X B)))
             (after-runs L1 L t u X l' n n' 0 (λ C. Back (Y ++ C) l') e h (r.5 l') g),
       )
+  after-runs L1 L (Meets what ks f) u X l n n' j st e h r g =
+      (r.0, (λ x B. r.1 x (X ++ B)), r.2, (λ B q. r.3 (X ++ B) (omega (arith, e, q, length-append X B))), λ x. after-runs L1 L (f x) u X (left_after l x) n n' 0 (r.1 x) e h (r.4 x) g)
 
   -- Of a goal that leaves no choice point the answers after the first are cut by nobody, and no one comes back for them.
   pub alone-runs : (Left : List ChoicePoint → Type 0) → ((X : List ChoicePoint) → Left X → X ≡ []) → (t : Trace) (l n j : ℕ) (st : List ChoicePoint → State)
@@ -142,6 +156,7 @@ module _ (codes : Codes) (out : Exit) (Ok : List ℕ → Type 0) where
   alone-runs Left h (Tick t) (suc l) n j st r = alone-runs Left h t l n (suc j) st r
   alone-runs Left h (Answer env t) l n j st r =
       (r.0, r.1, r.2, r.3, r.4, λ l' B q. same-state codes _ _ (ap (λ X. Back (X ++ B) l') (h r.0 r.2)))
+  alone-runs Left h (Meets what ks f) l n j st r = (r.0, r.1, r.2, r.3, λ x. alone-runs Left h (f x) (left_after l x) n 0 (r.1 x) (r.4 x))
 
 -- behind the goal comes something silent, and less is asked of marks and choice points
 pub exit-runs : (codes : Codes) (out1 out : Exit) (Ok1 Ok : List ℕ → Type 0) (L1 L : List ChoicePoint → Type 0)
@@ -154,6 +169,8 @@ exit-runs codes out1 out Ok1 Ok L1 L c o w (Tick t) zero n j st r = r
 exit-runs codes out1 out Ok1 Ok L1 L c o w (Tick t) (suc l) n j st r = exit-runs codes out1 out Ok1 Ok L1 L c o w t l n (suc j) st r
 exit-runs codes out1 out Ok1 Ok L1 L c o w (Answer env t) l n j st r =
     (r.0, r.1, w r.0 r.2, o r.1 r.3, (λ B q. record { by = λ u y. (r.4 B q).by u ((c env r.1 (r.0 ++ B) l).by u y) }), λ l'. exit-runs codes out1 out Ok1 Ok L1 L c o w t l' n 0 _ (r.5 l'))
+exit-runs codes out1 out Ok1 Ok L1 L c o w (Meets what ks f) l n j st r =
+    (r.0, r.1, r.2, r.3, λ x. exit-runs codes out1 out Ok1 Ok L1 L c o w (f x) (left_after l x) n 0 (r.1 x) (r.4 x))
 
 -- the same exit, and less is asked
 pub weaker-runs : (codes : Codes) (out : Exit) (Ok1 Ok : List ℕ → Type 0) (L1 L : List ChoicePoint → Type 0) → ((marks : List ℕ) → Ok1 marks → Ok marks) → ((X : List ChoicePoint) → L1 X → L X)
@@ -174,3 +191,5 @@ each-runs codes out1 out Ok1 Ok L1 L2 L f h g (Answer env t) l n j st r =
     late codes out Ok L (after (f env) (each f t)) l n 0 j j st (λ B. out1 env r.1 (r.0 ++ B) l) (omega arith) r.4
     (after-runs codes out Ok L2 L (f env) (each f t) r.0 l n (length r.0 + n) 0 (λ C. out1 env r.1 C l) refl (λ Y a. h Y r.0 a r.2) (g env r.1 l (length r.0 + n) r.3)
     (λ l'. each-runs codes out1 out Ok1 Ok L1 L2 L f h g t l' n 0 (λ B. Back (r.0 ++ B) l') (r.5 l')))
+each-runs codes out1 out Ok1 Ok L1 L2 L f h g (Meets what ks t) l n j st r =
+    (r.0, r.1, r.2, r.3, λ x. each-runs codes out1 out Ok1 Ok L1 L2 L f h g (t x) (left_after l x) n 0 (r.1 x) (r.4 x))

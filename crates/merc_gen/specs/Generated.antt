@@ -1,17 +1,21 @@
--- The code of goals. Each goal's code stands in front of the code that follows it. The marks of goals are numbered by how deep they are nested.
+-- The code of goals. Each goal's code stands in front of the code that follows it. The marks of goals are numbered by how deep they are nested. Conjuncts that are
+-- forked at a site have code of their own.
 use Rattle.std.specs.Prelude.{ℕ, suc, ◌+◌, Bool, true, false, not, ◌&&◌, List, [], ◌∷◌, length, Option, Some, None, if◌then◌else◌}
 use Rattle.std.specs.Option.{option_map}
 use Rattle.merc_goal_tree.specs.declared.goal.Symbol.{Symbol}
 use Rattle.merc_goal_tree.specs.declared.goal.Symbol.TheVariants.{Integer as IntegerSymbol, Text as TextSymbol}
 use Rattle.merc_graded_tree.specs.declared.basic.BasicGoal.{BasicGoal}
-use Rattle.merc_graded_tree.specs.declared.basic.BasicGoal.TheVariants.{True, Fail as FailGoal, Assign, Test as TestGoal, Build as BuildGoal, Split as SplitGoal, Arithmetic as ArithmeticGoal, Compare as CompareGoal, Raise as RaiseGoal, Call as CallGoal, Wait, Signal}
+use Rattle.merc_graded_tree.specs.declared.basic.BasicGoal.TheVariants.{True, Fail as FailGoal, Assign, Test as TestGoal, Build as BuildGoal, Split as SplitGoal, Arithmetic as ArithmeticGoal, Compare as CompareGoal, Raise as RaiseGoal, Call as CallGoal, Wait as WaitGoal, Signal as SignalGoal}
 use Rattle.merc_graded_tree.specs.declared.basic.Procedure.{Procedure}
+use Rattle.merc_graded_tree.specs.declared.entries.Running.TheVariants.{Sequential, Parallel}
 use Rattle.merc_graded_tree.specs.Nodes.{Node, node, Goal, Basic, Conjunction, Disjunction, Switch as SwitchGoal, Conditional, Negation, Quantified, Nodes, no_nodes, more_nodes, Arms, no_arms, more_arms}
 use Rattle.merc_meaning.specs.Runs.{Program, ProcedureBody, answers_once}
+use Rattle.merc_course.specs.Variables.{node_variables}
 use Rattle.merc_code.specs.declared.instruction.Instruction.{Instruction}
-use Rattle.merc_code.specs.declared.instruction.Instruction.TheVariants.{Integer, Text, Copy, Build, Split, Literal, Test, Arithmetic, Compare, Raise, Jump, Switch, Try, Mark, Commit, Soften, Call, Return, Fail, Answer}
+use Rattle.merc_code.specs.declared.instruction.Instruction.TheVariants.{Integer, Text, Copy, Build, Split, Literal, Test, Arithmetic, Compare, Raise, Jump, Switch, Try, Mark, Commit, Soften, Call, Return, Fail, Answer, Fork, Wait, Signal, Close}
 use Rattle.merc_code.specs.declared.instruction.Target.{Target}
-use Rattle.merc_code.specs.Steps.{Code, ProcedureCode, Codes}
+use Rattle.merc_code.specs.Steps.{Code, ProcedureCode, ConjunctCode, Codes}
+use Rattle.merc_gen.specs.Sites.{Sites}
 
 -- a symbol over no arguments that is an integer or a text is a literal
 abbrev pub build_code : ℕ → Symbol → List ℕ → Instruction
@@ -24,7 +28,6 @@ split_code whole (IntegerSymbol number) [] = Literal whole (IntegerSymbol number
 split_code whole (TextSymbol text) [] = Literal whole (TextSymbol text)
 split_code whole symbol arguments = Split whole symbol arguments
 
--- Conjuncts run one after the other, so what is waited for is there: a wait and a signal are no code.
 abbrev pub basic_code : BasicGoal → Code → Code
 basic_code True rest = rest
 basic_code FailGoal rest = Fail ∷ rest
@@ -36,8 +39,8 @@ basic_code (ArithmeticGoal operation result one other) rest = Arithmetic operati
 basic_code (CompareGoal comparison one other) rest = Compare comparison one other ∷ rest
 basic_code (RaiseGoal text) rest = Raise text ∷ rest
 basic_code (CallGoal procedure arguments) rest = Call procedure arguments ∷ rest
-basic_code (Wait variable conjunct) rest = rest
-basic_code (Signal variable conjunct) rest = rest
+basic_code (WaitGoal variable conjunct) rest = Wait variable ∷ rest
+basic_code (SignalGoal variable conjunct) rest = Signal variable ∷ rest
 
 -- behind a condition: its choice points are dropped where it answers once, else only the else part's choice point
 abbrev pub leaving : Bool → ℕ → Instruction
@@ -93,7 +96,9 @@ module _ (single : Procedure → Bool) where
   abbrev mutual
     pub goal_code : Goal → ℕ → Code → Code
     goal_code (Basic goal) mark rest = basic_code goal rest
-    goal_code (Conjunction running goals) mark rest = all_code goals mark rest
+    goal_code (Conjunction Sequential goals) mark rest = all_code goals mark rest
+    goal_code (Conjunction (Parallel None) goals) mark rest = all_code goals mark rest
+    goal_code (Conjunction (Parallel (Some site)) goals) mark rest = Fork site ∷ rest
     goal_code (Disjunction goals) mark rest = any_code goals mark rest
     goal_code (SwitchGoal variable arms) mark rest = Switch variable (targets arms mark 0) ∷ arms_code arms mark rest
     goal_code (Conditional condition then_part else_part) mark rest =
@@ -142,6 +147,14 @@ module _ (single : Procedure → Bool) where
   abbrev pub procedure_code : ProcedureBody → ProcedureCode
   procedure_code procedure = record { places = procedure.places; code = node_code procedure.body 0 (Return ∷ []) }
 
+  -- a conjunct that is forked is a goal by itself, in a frame of its own
+  abbrev pub conjunct_code : Node → ConjunctCode
+  conjunct_code goal = record { used = node_variables goal; code = node_code goal 0 (Close ∷ []) }
+
+  abbrev pub conjunct_codes : Nodes → List ConjunctCode
+  conjunct_codes no_nodes = []
+  conjunct_codes (more_nodes first rest) = conjunct_code first ∷ conjunct_codes rest
+
 -- a procedure leaves no choice point behind where its body answers once
 abbrev pub is_single : Option ProcedureBody → Bool
 is_single None = false
@@ -149,8 +162,12 @@ is_single (Some procedure) = is_once procedure.body
 
 -- Given is the program.
 module _ (program : Program) where
-  abbrev pub codes_of : Codes
-  codes_of procedure = option_map (procedure_code (λ called. is_single (program called))) (program procedure)
+  -- the code of its procedures and of the conjuncts that stand at these sites
+  abbrev pub codes_of : Sites → Codes
+  codes_of sites = record {
+    procedures = λ procedure. option_map (procedure_code (λ called. is_single (program called))) (program procedure);
+    conjuncts = λ site. conjunct_codes (λ called. is_single (program called)) (sites site);
+  }
 
   -- the code of a goal that answers with the values of these variables
   abbrev pub query_code : Node → List ℕ → Code

@@ -1,19 +1,21 @@
 -- Worked examples of the code of goals. A call of predicate 0 may leave choice points, one of predicate 1 leaves none.
-use Rattle.std.specs.Prelude.{◌≡◌, ℕ, pos, ◌==◌, Bool, [], ◌∷◌, slice_get, refl}
+use Rattle.std.specs.Prelude.{◌≡◌, ℕ, pos, ◌==◌, Bool, [], ◌∷◌, Some, None, slice_get, refl}
 use Rattle.merc_base.specs.declared.category.Category.TheVariants.{Semidet, Multi}
 use Rattle.merc_tree.specs.declared.declarations.Arg.TheVariants.{Input, Output}
 use Rattle.merc_goal_tree.specs.declared.goal.Comparison.TheVariants.{Less}
 use Rattle.merc_goal_tree.specs.declared.goal.Operation.TheVariants.{Add}
 use Rattle.merc_goal_tree.specs.declared.goal.Symbol.TheVariants.{Constructor, Integer as IntegerSymbol, Text as TextSymbol}
-use Rattle.merc_graded_tree.specs.declared.basic.BasicGoal.TheVariants.{True, Fail as FailGoal, Assign, Test as TestGoal, Build as BuildGoal, Split as SplitGoal, Arithmetic as ArithmeticGoal, Compare as CompareGoal, Raise as RaiseGoal, Call as CallGoal, Wait, Signal}
+use Rattle.merc_graded_tree.specs.declared.basic.BasicGoal.TheVariants.{True, Fail as FailGoal, Assign, Test as TestGoal, Build as BuildGoal, Split as SplitGoal, Arithmetic as ArithmeticGoal, Compare as CompareGoal, Raise as RaiseGoal, Call as CallGoal, Wait as WaitGoal, Signal as SignalGoal}
 use Rattle.merc_graded_tree.specs.declared.basic.Procedure.{Procedure}
-use Rattle.merc_graded_tree.specs.Nodes.{Node, Disjunction, Switch as SwitchGoal, Conditional, Negation, Quantified, nodes_of, no_arms, more_arms}
+use Rattle.merc_graded_tree.specs.declared.entries.Running.TheVariants.{Parallel}
+use Rattle.merc_graded_tree.specs.Nodes.{Node, Nodes, Conjunction, Disjunction, Switch as SwitchGoal, Conditional, Negation, Quantified, nodes_of, no_arms, more_arms}
 use Rattle.merc_meaning.specs.Runs.{Program, ProcedureBody}
 use Rattle.merc_meaning.specs.RunExamples.{goal, graded, basic, sequence, procedure}
 use Rattle.merc_code.specs.declared.instruction.Instruction.{Instruction}
-use Rattle.merc_code.specs.declared.instruction.Instruction.TheVariants.{Integer, Copy, Build, Split, Literal, Test, Arithmetic, Compare, Raise, Jump, Switch, Try, Mark, Commit, Soften, Call, Return, Fail, Answer}
-use Rattle.merc_code.specs.Steps.{Code}
-use Rattle.merc_gen.specs.Generated.{node_code, procedure_code, query_code}
+use Rattle.merc_code.specs.declared.instruction.Instruction.TheVariants.{Integer, Copy, Build, Split, Literal, Test, Arithmetic, Compare, Raise, Jump, Switch, Try, Mark, Commit, Soften, Call, Return, Fail, Answer, Fork, Wait, Signal, Close}
+use Rattle.merc_code.specs.Steps.{Code, ConjunctCode, Codes}
+use Rattle.merc_gen.specs.Sites.{Sites}
+use Rattle.merc_gen.specs.Generated.{node_code, procedure_code, conjunct_code, conjunct_codes, codes_of, query_code}
 
 abbrev single : Procedure → Bool
 single called = called.predicate == 1
@@ -81,7 +83,7 @@ basic-arithmetic = refl
 basic-exception : code (basic (RaiseGoal x) []) ≡ Raise x ∷ []
 basic-exception = refl
 
-basic-wait : code (sequence (basic (Signal x 1) [] ∷ basic (Wait x 1) [] ∷ []) []) ≡ []
+basic-wait : code (sequence (basic (SignalGoal x 1) [] ∷ basic (WaitGoal y 1) [] ∷ []) []) ≡ Signal x ∷ Wait y ∷ []
 basic-wait = refl
 
 basic-not : code (basic (BuildGoal x (IntegerSymbol (pos 7)) []) (x ∷ [])) ≡ Build x (IntegerSymbol (pos 7)) [] ∷ [] → ⊥
@@ -105,6 +107,38 @@ once-not leaves_them = cc
 
 conjunction-example : code (sequence (number x ∷ twice x y ∷ []) (x ∷ y ∷ [])) ≡ calls_number x ∷ calls_twice x y ∷ []
 conjunction-example = refl
+
+-- conjuncts that are forked at a site: each has code of its own, and its frame the values of the variables that it uses
+
+abbrev conjuncts : Nodes
+conjuncts = nodes_of (number x ∷ twice x y ∷ [])
+
+abbrev beside : Node
+beside = goal (Conjunction (Parallel (Some (record { number = 7 }))) conjuncts) (x ∷ y ∷ [])
+
+fork-example : code beside ≡ Fork (record { number = 7 }) ∷ []
+fork-example = refl
+
+fork-without_site : code (goal (Conjunction (Parallel None) conjuncts) (x ∷ y ∷ [])) ≡ calls_number x ∷ calls_twice x y ∷ []
+fork-without_site = refl
+
+fork-not : code beside ≡ calls_number x ∷ calls_twice x y ∷ [] → ⊥
+fork-not goes_one_after_the_other = cc
+
+abbrev number_code : ConjunctCode
+number_code = record { used = x ∷ []; code = calls_number x ∷ Close ∷ [] }
+
+abbrev twice_code : ConjunctCode
+twice_code = record { used = x ∷ y ∷ []; code = calls_twice x y ∷ Close ∷ [] }
+
+conjunct_codes-example : conjunct_codes single conjuncts ≡ number_code ∷ twice_code ∷ []
+conjunct_codes-example = refl
+
+conjunct_code-once : conjunct_code single (basic (CallGoal (procedure 0) (x ∷ [])) []) ≡ record { used = x ∷ []; code = Mark 0 ∷ calls_number x ∷ Commit 0 ∷ Close ∷ [] }
+conjunct_code-once = refl
+
+conjunct_code-not : (conjunct_code single (number x)).code ≡ calls_number x ∷ Return ∷ [] → ⊥
+conjunct_code-not returns = cc
 
 -- a disjunction: the last disjunct has no choice point
 
@@ -180,6 +214,15 @@ procedure-example = refl
 query-example : query_code program (goal (Quantified (x ∷ []) (sequence (number x ∷ twice x y ∷ []) (x ∷ y ∷ []))) []) (y ∷ [])
     ≡ Mark 0 ∷ calls_number x ∷ calls_twice x y ∷ Commit 0 ∷ Answer (y ∷ []) ∷ []
 query-example = refl
+
+abbrev sites : Sites
+sites site = conjuncts
+
+codes-procedure : Codes.procedures (codes_of program sites) (procedure 0) ≡ Some (procedure_code single number_body)
+codes-procedure = refl
+
+codes-conjuncts : Codes.conjuncts (codes_of program sites) 7 ≡ number_code ∷ twice_code ∷ []
+codes-conjuncts = refl
 
 query-not : query_code program (number x) (x ∷ []) ≡ calls_number x ∷ [] → ⊥
 query-not gives_none = cc

@@ -19,7 +19,7 @@ pub(crate) fn put_basic(alloc: Global, goal: &BasicGoal, code: &mut Suffix) -> R
     ensures { OnOk result (code.new ≡ basic_code goal.now code.old) }
 {
     match goal {
-        BasicGoal::True | BasicGoal::Wait(_, _) | BasicGoal::Signal(_, _) => Ok(()),
+        BasicGoal::True => Ok(()),
         BasicGoal::Fail => code.put_first(Instruction::Fail),
         BasicGoal::Assign(to, from) => code.put_first(Instruction::Copy(*to, *from)),
         BasicGoal::Test(one, other) => code.put_first(Instruction::Test(*one, *other)),
@@ -37,6 +37,8 @@ pub(crate) fn put_basic(alloc: Global, goal: &BasicGoal, code: &mut Suffix) -> R
         }
         BasicGoal::Raise(text) => code.put_first(Instruction::Raise(*text)),
         BasicGoal::Call(procedure, arguments) => put_call(alloc, *procedure, arguments, code),
+        BasicGoal::Wait(variable, _) => code.put_first(Instruction::Wait(*variable)),
+        BasicGoal::Signal(variable, _) => code.put_first(Instruction::Signal(*variable)),
     }
 }
 

@@ -3,7 +3,8 @@ ghost use Rattle.std.specs.Prelude.{◌≡◌, Bool, ◌+◌, ◌++◌, ◌-◌,
 ghost use Rattle.merc_code.specs.Steps.{Code};
 ghost use Rattle.merc_code.specs.declared.instruction.Instruction.{Instruction};
 ghost use Rattle.merc_graded_tree.specs.declared.basic.Procedure.{Procedure};
-ghost use Rattle.merc_graded_tree.specs.Nodes.{Disjunction, Negation, Switch, goal_of, nodes_of};
+ghost use Rattle.merc_graded_tree.specs.declared.entries.Running.{Running};
+ghost use Rattle.merc_graded_tree.specs.Nodes.{Conjunction, Disjunction, Negation, Switch, goal_of, nodes_of};
 ghost use Rattle.merc_graded_tree.specs.Roots.{arms_of};
 ghost use Rattle.merc_gen.specs.Generated.{goal_code, leaving, node_code};
 ghost use Rattle.merc_gen.specs.Singles.{contained};
@@ -20,7 +21,7 @@ use crate::tasks::{Arms, Task};
 use merc_base::{NoMemory, Sequence};
 use merc_code::{Instruction, Mark, Target};
 use merc_goal_tree::{Symbol, Var};
-use merc_graded_tree::{NodeRef, NodeView, Parts};
+use merc_graded_tree::{NodeRef, NodeView, Parts, Running, Site};
 use std::alloc::Global;
 
 /// The goal's code before a last instruction, where some procedures are known to leave no choice point behind. It takes
@@ -145,7 +146,9 @@ fn emit_bare<'a>(
 {
     match goal.view() {
         NodeView::Basic(basic) => put_basic(alloc, basic, code),
-        NodeView::Conjunction(_, goals) => leave(Task::InTurn(goals, mark), tasks),
+        NodeView::Conjunction(running, goals) => {
+            start_conjunction(running, goals, mark, tasks, code)
+        }
         NodeView::Disjunction(goals) => start_disjunction(goals, mark, tasks, code),
         NodeView::Switch(variable, symbols, arms) => {
             start_switch(alloc, variable, symbols, arms, mark, tasks, code)
@@ -156,6 +159,38 @@ fn emit_bare<'a>(
         }
         NodeView::Negation(inner) => emit_negation(inner, mark, tasks, code),
         NodeView::Quantified(_, inner) => leave(Task::Emit(inner, mark), tasks),
+    }
+}
+
+// Forks goals that run side by side at a site. The code of others is to be put in turn.
+fn start_conjunction<'a>(
+    running: Running,
+    goals: Parts<'a>,
+    mark: usize,
+    tasks: &mut Vec<Task<'a>>,
+    code: &mut Suffix,
+) -> Result<(), NoMemory>
+    ensures { OnOk result ((single : Procedure → Bool) → Performs single (goal_code single (Conjunction running (nodes_of goals.entry)) mark) (goal_turns (Conjunction running (nodes_of goals.entry))) tasks.old.items code.old tasks.new.items code.new) }
+{
+    match running {
+        Running::Parallel(site) => start_parallel(site, goals, mark, tasks, code),
+        Running::Sequential => leave(Task::InTurn(goals, mark), tasks),
+    }
+}
+
+// Forks goals at a site. Without one their code is to be put in turn.
+fn start_parallel<'a>(
+    site: Option<Site>,
+    goals: Parts<'a>,
+    mark: usize,
+    tasks: &mut Vec<Task<'a>>,
+    code: &mut Suffix,
+) -> Result<(), NoMemory>
+    ensures { OnOk result ((single : Procedure → Bool) → Performs single (goal_code single (Conjunction (Running.Parallel site) (nodes_of goals.entry)) mark) (goal_turns (Conjunction (Running.Parallel site) (nodes_of goals.entry))) tasks.old.items code.old tasks.new.items code.new) }
+{
+    match site {
+        Some(site) => code.put_first(Instruction::Fork(site)),
+        None => leave(Task::InTurn(goals, mark), tasks),
     }
 }
 

@@ -3,6 +3,7 @@
 
 mod arms;
 mod basics;
+mod forked;
 mod generating;
 pub mod laws;
 mod program;
@@ -11,6 +12,8 @@ mod singles;
 mod suffix;
 mod tasks;
 mod trees;
+mod variables;
+mod walking;
 
 pub use generating::generate_goal;
 pub use program::generate;

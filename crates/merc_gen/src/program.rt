@@ -1,13 +1,16 @@
 //! The code of whole programs.
-ghost use Rattle.std.specs.Prelude.{◌≡◌, [], length, drop, map, IfOk, OnOk};
+ghost use Rattle.std.specs.Prelude.{◌≡◌, ℕ, [], length, drop, map, IfOk, OnOk};
 ghost use Rattle.merc_graded_tree.specs.declared.basic.Procedure.{Procedure};
 ghost use Rattle.merc_meaning.specs.Programs.{program_with};
+ghost use Rattle.merc_code.specs.Steps.{Codes};
 ghost use Rattle.merc_code.specs.ProgramCode.{codes_in};
 ghost use Rattle.merc_gen.specs.Generated.{codes_of, procedure_code, query_code};
 ghost use Rattle.merc_gen.specs.Procedures.{mode_bodies, program_bodies, answer_once};
 ghost use Rattle.merc_gen.specs.Singles.{contained};
+ghost use Rattle.merc_gen.specs.Sites.{conjuncts_at, forked_with};
 
 use crate::Singles;
+use crate::forked::generate_conjuncts;
 use crate::generating::generate_goal;
 use crate::quiet::is_once;
 use crate::trees::TreesLeft;
@@ -18,8 +21,9 @@ use merc_graded_tree::{NodeRef, Nodes};
 use merc_tree::{Args, ModeDecl, PredDecl};
 use std::alloc::Global;
 
-/// The code of all procedures of a module, and of a goal that answers with the values of these variables. The trees are
-/// those of each predicate in each of its modes, both in order; a mode past the last tree has no code. It takes time and
+/// The code of all procedures of a module, of a goal that answers with the values of these variables, and of the conjuncts
+/// that are forked at their sites. The trees are those of each predicate in each of its modes, both in order; a mode past
+/// the last tree has no code. Sites are numbered in the order of the trees and of the goal behind them. It takes time and
 /// memory of the order of the trees and the goal.
 ///
 /// # Errors
@@ -32,13 +36,15 @@ pub fn generate(
     goal: &NodeRef<'_>,
     answers: Vars,
 ) -> Result<Code, NoMemory>
-    ensures procedures { IfOk result (λ code. (procedure : Procedure) → codes_in code procedure ≡ codes_of (program_with predicates.now trees.now) procedure) }
+    ensures procedures { IfOk result (λ code. (procedure : Procedure) → Codes.procedures (codes_in code) procedure ≡ Codes.procedures (codes_of (program_with predicates.now trees.now) (conjuncts_at (forked_with trees.now goal.now))) procedure) }
+    ensures conjuncts { IfOk result (λ code. (site : ℕ) → Codes.conjuncts (codes_in code) site ≡ Codes.conjuncts (codes_of (program_with predicates.now trees.now) (conjuncts_at (forked_with trees.now goal.now))) site) }
     ensures query { IfOk result (λ code. code.query ≡ query_code (program_with predicates.now trees.now) goal.now answers) }
 {
     let singles = find_singles(alloc, predicates, trees)?;
     let procedures = generate_procedures(alloc, &singles, predicates, trees)?;
+    let conjuncts = generate_conjuncts(alloc, &singles, trees, goal)?;
     let query = generate_goal(alloc, &singles, goal, Instruction::Answer(answers))?;
-    Ok(Code::new(procedures, Sequence::from_vec(query)))
+    Ok(Code::new(procedures, conjuncts, Sequence::from_vec(query)))
 }
 
 // The procedures whose trees answer once.

@@ -1,15 +1,15 @@
 -- Each step with last calls is one or more of code without them.
 use Rattle.std.proofs.Common.{◌≡◌, ℕ, zero, suc, ◌-◌, ◌==◌, Bool, true, false, if◌then◌else◌, List, [], ◌∷◌, length, drop, Option, Some, None, refl, ap, sym, subst}
 use Rattle.merc_tree.specs.declared.declarations.Arg.{Arg}
-use Rattle.merc_value.specs.Value.{Int, Text as TextValue}
+use Rattle.merc_value.specs.Value.{Value, Int, Text as TextValue}
 use Rattle.merc_meaning.specs.Arithmetic.{comparison_of}
 use Rattle.merc_meaning.specs.Values.{same}
 use Rattle.merc_meaning.specs.Trace.{Env}
 use Rattle.merc_meaning.specs.Steps.{value_at, values_at, bound, brought_back}
-use Rattle.merc_code.specs.declared.instruction.Instruction.TheVariants.{Integer, Text, Copy, Build, Split, Literal, Test, Arithmetic, Compare, Raise, Jump, Switch, Try, Mark, Commit, Soften, Call, Return, Fail, Answer}
-use Rattle.merc_code.specs.Steps.{Code, ProcedureCode, Codes, Effect, Binds, Fails, Raises, gives, compares, builds, splits, operates, raises, Caller, caller, ChoicePoint, Dead, GoesOn, State, At, Back, Step, Moves, marked, mark_at, oldest, softened, continued, target_at, switches, enters, returns, goes_back, step}
+use Rattle.merc_code.specs.declared.instruction.Instruction.TheVariants.{Integer, Text, Copy, Build, Split, Literal, Test, Arithmetic, Compare, Raise, Jump, Switch, Try, Mark, Commit, Soften, Call, Return, Fail, Answer, Fork, Wait, Signal, Close}
+use Rattle.merc_code.specs.Steps.{Code, ProcedureCode, Codes, Effect, Binds, Fails, Raises, gives, compares, builds, splits, operates, raises, Caller, caller, ChoicePoint, Dead, GoesOn, State, At, Back, Step, Moves, marked, mark_at, oldest, softened, continued, target_at, switches, enters, returns, signals, goes_back, step}
 use Rattle.merc_last_calls.specs.LastCalls.{comes_to_return, outputs, own_outputs, are_same, enters_lean, step_lean}
-use Rattle.merc_last_calls.specs.Standing.{Stands, bottom, kept, handed, ChoicesStand, none, dead, goes_on, Matches, at, back, Ahead, stops, moves, ticks, answers, stuck, behind}
+use Rattle.merc_last_calls.specs.Standing.{Stands, bottom, kept, handed, ChoicesStand, none, dead, goes_on, Matches, at, back, Ahead, stops, moves, ticks, answers, asks, stuck, behind}
 use Rattle.merc_last_calls.proofs.Handing.{both, Leads, here, on, leads, hands, call_stands}
 
 -- choice points
@@ -84,6 +84,11 @@ module _ (codes : Codes) where
   switches_so None k env marks l c lean choices left state s h e = moves _ _ _ e (back _ _ _ h)
   switches_so (Some skipped) k env marks l c lean choices left state s h e = moves _ _ _ e (at _ _ _ _ _ _ _ _ s h)
 
+  signals_so : (x : ℕ) (o : Option Value) (k : Code) (env : Env) (marks : List ℕ) (l c : List Caller) (lean choices : List ChoicePoint) (left : ℕ) (state : State) → Stands l c → ChoicesStand lean choices
+      → step codes state ≡ signals k env marks c choices left x o → Ahead codes (signals k env marks l lean left x o) state
+  signals_so x None k env marks l c lean choices left state s h e = moves _ _ _ e (back _ _ _ h)
+  signals_so x (Some value) k env marks l c lean choices left state s h e = asks _ _ _ _ _ e (λ r. at _ _ _ _ _ _ _ _ s h)
+
   enters_so : (called : Option ProcedureCode) (k : Code) (env : Env) (marks arguments : List ℕ) (l c : List Caller) (lean choices : List ChoicePoint) (left : ℕ) (state : State) → Stands l c → ChoicesStand lean choices
       → step codes state ≡ enters called k env marks arguments c choices left → Ahead codes (enters_lean called k env marks arguments l lean left) state
   enters_so None k env marks arguments l c lean choices left state s h e = moves _ _ _ e (back _ _ _ h)
@@ -118,7 +123,26 @@ module _ (codes : Codes) where
       moves _ _ _ refl (subst (λ n. Matches (At k env (marked marks mark n) l cs left) (At k env (marked marks mark (length bs)) c bs left)) (sym (choices_count cs bs h)) (at _ _ _ _ _ _ _ _ s h))
   ahead lean state (at (Commit mark ∷ k) env marks l c cs bs left s h) = moves _ _ _ refl (at _ _ _ _ _ _ _ _ s (oldest_stand (mark_at marks mark) cs bs h))
   ahead lean state (at (Soften mark ∷ k) env marks l c cs bs left s h) = moves _ _ _ refl (at _ _ _ _ _ _ _ _ s (softened_stand (mark_at marks mark) cs bs h))
-  ahead lean state (at (Call procedure arguments ∷ k) env marks l c cs bs left s h) = enters_so (codes procedure) k env marks arguments l c cs bs left _ s h refl
+  ahead lean state (at (Call procedure arguments ∷ k) env marks l c cs bs left s h) = enters_so (codes.procedures procedure) k env marks arguments l c cs bs left _ s h refl
   ahead lean state (at (Return ∷ k) env marks l c cs bs left s h) = returns_so k env marks l c cs bs left s h
   ahead lean state (at (Fail ∷ k) env marks l c cs bs left s h) = moves _ _ _ refl (back _ _ _ h)
   ahead lean state (at (Answer variables ∷ k) env marks l c cs bs left s h) = answers _ _ _ _ refl (back _ _ _ h)
+  ahead lean state (at (Fork site ∷ k) env marks l c cs bs left s h) = asks _ _ _ _ _ refl (λ r. at _ _ _ _ _ _ _ _ s h)
+  ahead lean state (at (Wait variable ∷ k) env marks l c cs bs left s h) = asks _ _ _ _ _ refl (λ r. at _ _ _ _ _ _ _ _ s h)
+  ahead lean state (at (Signal variable ∷ k) env marks l c cs bs left s h) = signals_so variable (value_at env variable) k env marks l c cs bs left _ s h refl
+  ahead lean state (at (Close ∷ k) env marks l c cs bs left s h) = stops _ _ refl
+
+-- a state stands for itself
+
+own_callers : (callers : List Caller) → Stands callers callers
+own_callers [] = bottom
+own_callers (newest ∷ callers) = kept newest callers callers (own_callers callers)
+
+own_choices : (choices : List ChoicePoint) → ChoicesStand choices choices
+own_choices [] = none
+own_choices (Dead ∷ choices) = dead choices choices (own_choices choices)
+own_choices (GoesOn rest env marks callers ∷ choices) = goes_on rest env marks callers callers choices choices (own_callers callers) (own_choices choices)
+
+pub own : (state : State) → Matches state state
+own (At rest env marks callers choices left) = at rest env marks callers callers choices choices left (own_callers callers) (own_choices choices)
+own (Back choices left) = back choices choices left (own_choices choices)

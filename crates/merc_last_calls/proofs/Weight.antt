@@ -1,11 +1,11 @@
 -- Moves with last calls make the weight less too: a state is no heavier than one that it stands for.
-use Rattle.std.proofs.Common.{◌≡◌, ◌+◌, ◌<◌, ◌≤◌, List, [], ◌∷◌, length, subst, arith}
-use Rattle.merc_code.specs.Steps.{Codes, Caller, caller, ChoicePoint, Dead, GoesOn, State, At, Back, Step, Stops, Moves, Ticks, Answers, Stuck}
+use Rattle.std.proofs.Common.{◌≡◌, ◌+◌, ◌<◌, ◌≤◌, List, ◌∷◌, length, subst, arith}
+use Rattle.merc_code.specs.Steps.{Codes, Caller, caller, ChoicePoint, State, Step, Stops, Moves, Ticks, Answers, Asks, Stuck}
 use Rattle.merc_code.specs.Weight.{left_in, choices_weight, weight}
 use Rattle.merc_code.proofs.Weight.{Falls, doubled_most, falls}
 use Rattle.merc_last_calls.specs.LastCalls.{step_lean}
-use Rattle.merc_last_calls.specs.Standing.{Stands, bottom, kept, handed, ChoicesStand, none, dead, goes_on, Matches, at, back, Ahead, stops, moves, ticks, answers, stuck, behind}
-use Rattle.merc_last_calls.proofs.Leaning.{ahead}
+use Rattle.merc_last_calls.specs.Standing.{Stands, bottom, kept, handed, ChoicesStand, none, dead, goes_on, Matches, at, back, Ahead, stops, moves, ticks, answers, asks, stuck, behind}
+use Rattle.merc_last_calls.proofs.Leaning.{ahead, own}
 
 fewer_left : (lean callers : List Caller) → Stands lean callers → left_in lean ≤ left_in callers
 fewer_left lean callers bottom = omega arith
@@ -33,27 +33,14 @@ falls_ahead codes made state (stops _ end q) = tt
 falls_ahead codes made state (moves lean _ next q m) = let a = lighter lean next m in let b = falls codes state next q in omega (arith, a, b)
 falls_ahead codes made state (ticks lean _ next q m) = tt
 falls_ahead codes made state (answers lean _ next values q m) = tt
+falls_ahead codes made state (asks lean _ what forked next q m) = tt
 falls_ahead codes made state (stuck _ q) = tt
 falls_ahead codes (Stops end) state (behind _ _ next q g) = tt
 falls_ahead codes (Moves lean) state (behind _ _ next q g) = let a = falls_ahead codes (Moves lean) next g in let b = falls codes state next q in omega (arith, a, b)
 falls_ahead codes (Ticks lean) state (behind _ _ next q g) = tt
 falls_ahead codes (Answers values lean) state (behind _ _ next q g) = tt
+falls_ahead codes (Asks what forked lean) state (behind _ _ next q g) = tt
 falls_ahead codes Stuck state (behind _ _ next q g) = tt
-
--- a state stands for itself
-
-own_callers : (callers : List Caller) → Stands callers callers
-own_callers [] = bottom
-own_callers (newest ∷ callers) = kept newest callers callers (own_callers callers)
-
-own_choices : (choices : List ChoicePoint) → ChoicesStand choices choices
-own_choices [] = none
-own_choices (Dead ∷ choices) = dead choices choices (own_choices choices)
-own_choices (GoesOn rest env marks callers ∷ choices) = goes_on rest env marks callers callers choices choices (own_callers callers) (own_choices choices)
-
-own : (state : State) → Matches state state
-own (At rest env marks callers choices left) = at rest env marks callers callers choices choices left (own_callers callers) (own_choices choices)
-own (Back choices left) = back choices choices left (own_choices choices)
 
 pub falls_lean : (codes : Codes) (lean next : State) → step_lean codes lean ≡ Moves next → weight next < weight lean
 falls_lean codes lean next e = subst (λ made. Falls made (weight lean)) e (falls_ahead codes (step_lean codes lean) lean (ahead codes lean lean (own lean)))

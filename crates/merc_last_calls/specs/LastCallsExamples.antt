@@ -3,14 +3,16 @@ use Rattle.std.specs.Prelude.{◌≡◌, ℕ, zero, pos, true, false, List, [], 
 use Rattle.std.proofs.Common.{arith}
 use Rattle.merc_tree.specs.declared.declarations.Arg.{Arg}
 use Rattle.merc_tree.specs.declared.declarations.Arg.TheVariants.{Input, Output}
-use Rattle.merc_meaning.specs.Trace.{Ends, Tick, Answer as AnswerOf, RunDone, LimitPassed}
-use Rattle.merc_code.specs.declared.instruction.Instruction.TheVariants.{Integer, Copy, Jump, Commit, Call, Return, Fail, Answer}
-use Rattle.merc_code.specs.Steps.{Code, Codes, Caller, caller, Dead, GoesOn, State, At, Back, Stops, Moves, Ticks, step}
-use Rattle.merc_code.specs.StepsExamples.{int, procedure}
+use Rattle.merc_meaning.specs.Trace.{RunDone, LimitPassed}
+use Rattle.merc_course.specs.Course.{Reply, AtWait, AtFork, Ends, Tick, Answer as AnswerOf, Meets, no_courses, more_courses, left_after}
+use Rattle.merc_course.specs.Courses.{given_by}
+use Rattle.merc_code.specs.declared.instruction.Instruction.TheVariants.{Integer, Copy, Jump, Commit, Call, Return, Fail, Answer, Fork, Wait, Close}
+use Rattle.merc_code.specs.Steps.{Code, Codes, Caller, caller, Dead, GoesOn, State, At, Back, Stops, Moves, Ticks, Asks, step}
+use Rattle.merc_code.specs.StepsExamples.{int, procedure, site}
 use Rattle.merc_code.specs.Meaning.{Goes, stays as stays_too, moves as moves_too, ticks as ticks_too, start}
 use Rattle.merc_last_calls.specs.LastCalls.{comes_to_return, outputs, own_outputs, arguments_with, are_same, is_last, handed_to, with_call, step_lean}
-use Rattle.merc_last_calls.specs.LeanMeaning.{YieldsLean, stops, moves, ticks, answers, GoesLean, stays}
-use Rattle.merc_last_calls.specs.Standing.{Stands, bottom, kept, handed, ChoicesStand, none as no_choices, dead, goes_on, Matches, at, back, Ahead, moves as moves_ahead, behind, Follows, FollowsAnswer, FollowsStop}
+use Rattle.merc_last_calls.specs.LeanMeaning.{YieldsLean, stops, moves, ticks, answers, asks, yield_none, yield_more, GoesLean, stays}
+use Rattle.merc_last_calls.specs.Standing.{Stands, bottom, kept, handed, ChoicesStand, none as no_choices, dead, goes_on, Matches, at, back, Ahead, moves as moves_ahead, asks as asks_ahead, behind, Follows, FollowsAnswer, FollowsAsk, FollowsStop}
 
 comes_to_return-jumps : comes_to_return 0 (Jump 1 ∷ Fail ∷ Jump 0 ∷ Return ∷ []) ≡ true
 comes_to_return-jumps = refl
@@ -87,9 +89,12 @@ abbrev one_output : List Arg
 one_output = Output ∷ []
 
 abbrev calling : Codes
-calling called = slice_get
-    (record { places = one_output; code = Call (procedure 1) (0 ∷ []) ∷ Return ∷ [] } ∷ record { places = one_output; code = Integer 0 (pos 7) ∷ Return ∷ [] } ∷ [])
-    called.predicate
+calling = record {
+  procedures = λ called. slice_get
+      (record { places = one_output; code = Call (procedure 1) (0 ∷ []) ∷ Return ∷ [] } ∷ record { places = one_output; code = Integer 0 (pos 7) ∷ Return ∷ [] } ∷ [])
+      called.predicate;
+  conjuncts = λ site. record { used = 0 ∷ []; code = Call (procedure 0) (0 ∷ []) ∷ Close ∷ [] } ∷ [];
+}
 
 abbrev asking : Code
 asking = Call (procedure 0) (0 ∷ []) ∷ Answer (0 ∷ []) ∷ []
@@ -117,8 +122,13 @@ lean_run : YieldsLean calling (start asking 2) (Tick (Tick (AnswerOf (int 7 ∷ 
 lean_run = ticks _ _ _ refl (ticks _ _ _ refl (moves _ _ _ refl (moves _ _ _ refl (answers _ _ _ _ refl (stops _ _ refl)))))
 
 lean_run-not : YieldsLean calling (start asking 2) (AnswerOf (int 7 ∷ []) (Ends RunDone)) → ⊥
-lean_run-not (moves _ next run e later) = absurd cc
-lean_run-not (answers _ next values run e later) = absurd cc
+lean_run-not (moves _ next course e later) = absurd cc
+lean_run-not (answers _ next values course e later) = absurd cc
+
+-- a conjunct that is forked makes its last call so too
+lean_fork : YieldsLean calling (start (Fork (site 4) ∷ Answer [] ∷ []) 1)
+    (Meets (AtFork 4) (more_courses (Tick (Ends LimitPassed)) no_courses) (λ reply. AnswerOf [] (Ends RunDone)))
+lean_fork = asks _ _ _ _ _ _ refl (yield_more _ _ _ _ (ticks _ _ _ refl (stops _ _ refl)) yield_none) (λ reply. answers _ _ _ _ refl (stops _ _ refl))
 
 one_frame : GoesLean calling 2 (start asking 2) (second_with (waiting ∷ []))
 one_frame = ticks _ _ _ _ refl (ticks _ _ _ _ refl (stays _))
@@ -168,6 +178,28 @@ follows_answer-example = record {
   answers = refl;
   matches = back _ _ _ no_choices;
 }
+
+-- the same before code that waits
+abbrev waiting_behind : Code
+waiting_behind = Wait 0 ∷ Answer (0 ∷ []) ∷ []
+
+abbrev waits_behind : Caller
+waits_behind = caller waiting_behind [] [] one_output (0 ∷ [])
+
+abbrev given_behind : Reply → State
+given_behind reply = At (Answer (0 ∷ []) ∷ []) (given_by reply ∷ []) [] [] [] (left_after 0 reply)
+
+follows_ask-example : FollowsAsk calling (AtWait 0) [] given_behind (returned (passed_through ∷ waits_behind ∷ []))
+follows_ask-example = record {
+  before = At waiting_behind (int 7 ∷ []) [] [] [] 0;
+  there = given_behind;
+  goes = moves_too _ _ _ _ refl (moves_too _ _ _ _ refl (stays_too _));
+  asks = refl;
+  matches = λ reply. at _ _ _ _ _ _ _ _ bottom no_choices;
+}
+
+ahead_ask-example : Ahead calling (Asks (AtWait 0) [] given_behind) (At waiting_behind (int 7 ∷ []) [] [] [] 0)
+ahead_ask-example = asks_ahead _ _ _ _ _ refl (λ reply. at _ _ _ _ _ _ _ _ bottom no_choices)
 
 follows_stop-example : FollowsStop calling RunDone (Back (Dead ∷ []) 0)
 follows_stop-example = record { before = Back [] 0; goes = moves_too _ _ _ _ refl (stays_too _); stops = refl }

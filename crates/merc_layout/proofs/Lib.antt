@@ -1,4 +1,5 @@
 pub mod KnownProcedures
+pub mod ConjunctEntries
 pub mod Lists
 pub mod Places
 pub mod Reading

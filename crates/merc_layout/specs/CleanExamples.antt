@@ -3,6 +3,7 @@ use Rattle.std.specs.Prelude.{◌≡◌, pos, true, false, [], ◌∷◌, None, 
 use Rattle.merc_tree.specs.declared.declarations.Arg.TheVariants.{Input, Output}
 use Rattle.merc_goal_tree.specs.declared.goal.Symbol.TheVariants.{Constructor, Integer as IntegerSymbol}
 use Rattle.merc_code.specs.declared.instruction.Instruction.TheVariants.{Text, Copy, Split, Jump, Try, Mark, Commit, Call, Return}
+use Rattle.merc_code.specs.Steps.{Codes}
 use Rattle.merc_code.specs.StepsExamples.{procedure}
 use Rattle.merc_live.specs.ReadsExamples.{one}
 use Rattle.merc_live.specs.declared.reading.Slot.TheVariants.{Variable, Mark as MarkSlot}
@@ -23,7 +24,7 @@ own_at-outputs = refl
 places_in-none : places_in None ≡ []
 places_in-none = refl
 
-places_in-example : places_in (one (procedure 0)) ≡ Input ∷ Output ∷ []
+places_in-example : places_in (Codes.procedures one (procedure 0)) ≡ Input ∷ Output ∷ []
 places_in-example = refl
 
 -- A call looks at the input and writes the output.

@@ -4,7 +4,7 @@ use Rattle.std.proofs.Common.{ap, arith}
 use Rattle.merc_tree.specs.declared.declarations.Arg.{Arg}
 use Rattle.merc_tree.specs.declared.declarations.Arg.TheVariants.{Input, Output}
 use Rattle.merc_code.specs.declared.instruction.Instruction.TheVariants.{Fail, Jump, Return}
-use Rattle.merc_code.specs.Steps.{Code}
+use Rattle.merc_code.specs.Steps.{Code, Codes}
 use Rattle.merc_layout.specs.Entries.{AreAdded, HasEntry, codes_of, entries_of, entry_behind, known_at, length_of}
 use Rattle.merc_layout.specs.declared.entries.Known.{Known}
 use Rattle.merc_layout.specs.declared.entries.Piece.{Piece}
@@ -71,7 +71,7 @@ entries_of-example = refl
 known_at-absent : known_at table (record { predicate = 1; mode = 0 }) ≡ None
 known_at-absent = refl
 
-codes_of-example : codes_of table (record { predicate = 0; mode = 1 }) ≡ Some (record { places = Output ∷ []; code = [] })
+codes_of-example : Codes.procedures (codes_of table) (record { predicate = 0; mode = 1 }) ≡ Some (record { places = Output ∷ []; code = [] })
 codes_of-example = refl
 
 -- pieces behind others

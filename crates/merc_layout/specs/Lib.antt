@@ -5,6 +5,7 @@ pub mod EntriesExamples
 pub mod Frames
 pub mod FramesExamples
 pub mod KnownProcedures
+pub mod KnownConjuncts
 pub mod KnownProceduresExamples
 pub mod Sizes
 pub mod StartsClean

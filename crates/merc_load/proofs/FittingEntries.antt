@@ -72,7 +72,7 @@ module _ (program : Loaded) (codes : Codes) (entry_of : Procedure → Entry) (qu
       by false = received
 
   op_received : (instruction : Instruction) (rest : Code) → FitsEntry (op_of codes entry_of variables own instruction rest)
-  op_received (Call procedure arguments) rest = call_received procedure (codes procedure) arguments rest refl
+  op_received (Call procedure arguments) rest = call_received procedure (codes.procedures procedure) arguments rest refl
   op_received instruction rest = tt
 
   ops_received : (code : Code) → All FitsEntry (ops_of codes entry_of variables own code)

@@ -8,7 +8,7 @@ use Rattle.merc_goal_tree.specs.declared.goal.Symbol.TheVariants.{Integer as Int
 use Rattle.merc_goal_tree.specs.declared.goal.Operation.TheVariants.{Add, Subtract}
 use Rattle.merc_graded_tree.specs.declared.basic.Procedure.{Procedure}
 use Rattle.merc_code.specs.declared.instruction.Instruction.{Instruction}
-use Rattle.merc_code.specs.declared.instruction.Instruction.TheVariants.{Integer, Text, Copy, Build, Split, Literal, Test, Arithmetic, Compare, Raise, Jump, Switch, Try, Mark, Commit, Soften, Call, Return, Fail, Answer}
+use Rattle.merc_code.specs.declared.instruction.Instruction.TheVariants.{Integer, Text, Copy, Build, Split, Literal, Test, Arithmetic, Compare, Raise, Jump, Switch, Try, Mark, Commit, Soften, Call, Return, Fail, Answer, Fork, Wait, Signal, Close}
 use Rattle.merc_code.specs.declared.instruction.Target.{Target}
 use Rattle.merc_code.specs.Steps.{Code, Codes, ProcedureCode}
 use Rattle.merc_last_calls.specs.LastCalls.{outputs}
@@ -56,6 +56,8 @@ module _ (variables slots size : ℕ) (room : variables ≤ size) where
   has_slots (Switch whole targets) f = first whole [] f.read_variables_are_there
   has_slots (Call procedure arguments) f = wider arguments f.read_variables_are_there
   has_slots (Answer answers) f = wider answers f.read_variables_are_there
+  has_slots (Wait variable) f = first variable [] f.written_variables_are_there
+  has_slots (Signal variable) f = first variable [] f.read_variables_are_there
   has_slots instruction f = tt
 
 -- the variables to which an instruction may give values are among its slots
@@ -67,6 +69,7 @@ written_slots size (Build to symbol arguments) h = All-from_recursion (λ (slot 
 written_slots size (Split whole symbol arguments) h = h.1
 written_slots size (Arithmetic operation to one other) h = All-from_recursion (λ (slot : ℕ). slot < size) (to ∷ []) (h.0, tt)
 written_slots size (Call procedure arguments) h = h
+written_slots size (Wait variable) h = All-from_recursion (λ (slot : ℕ). slot < size) (variable ∷ []) (h, tt)
 written_slots size instruction h = All-nil (λ (slot : ℕ). slot < size)
 
 -- Superinstructions name only slots of the instructions for which they stand.
@@ -199,10 +202,14 @@ module _ (codes : Codes) (entry_of : Procedure → Entry) (variables size : ℕ)
   op_fits (Mark mark) rest f = mark_fits mark f.set_marks_are_there
   op_fits (Commit mark) rest f = mark_fits mark f.read_marks_are_there
   op_fits (Soften mark) rest f = mark_fits mark f.read_marks_are_there
-  op_fits (Call procedure arguments) rest f = call_fits (entry_of procedure) (codes procedure) arguments rest (has_slots variables size size room (Call procedure arguments) f)
+  op_fits (Call procedure arguments) rest f = call_fits (entry_of procedure) (codes.procedures procedure) arguments rest (has_slots variables size size room (Call procedure arguments) f)
   op_fits Return rest f = wider variables size size room (results_of own) results
   op_fits Fail rest f = tt
   op_fits (Answer answers) rest f = has_slots variables size size room (Answer answers) f
+  op_fits (Fork site) rest f = tt
+  op_fits (Wait variable) rest f = has_slots variables size size room (Wait variable) f
+  op_fits (Signal variable) rest f = has_slots variables size size room (Signal variable) f
+  op_fits Close rest f = tt
   op_fits instruction rest f = has_slots variables size size room instruction f
 
   ops_fit : (code : Code) → FitsCode variables size code → All (FitsOp size) (ops_of codes entry_of variables own code)

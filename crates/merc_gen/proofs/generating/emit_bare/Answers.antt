@@ -4,14 +4,14 @@ use Rattle.merc_graded_tree.specs.Nodes.{Conjunction, Disjunction, Switch, Condi
 use Rattle.merc_graded_tree.specs.Roots.{arms_of}
 use Rattle.merc_graded_tree.specs.Views.{viewed}
 use Rattle.merc_gen.proofs.Performing.{performs_goal}
-use Rattle.merc_gen.proofs.Parting.{conjuncts_start, conditional_start, quantified_start}
+use Rattle.merc_gen.proofs.Parting.{conditional_start, quantified_start}
 use Rattle.merc_gen.proofs.generating.emit_bare.Goals as goal
 
 pub returns-in-Conjunction : goal.returns-in-Conjunction
 returns-in-Conjunction c =
-    on_ok_weaker c.leave.result (λ left single. performs_goal single (goal_of c.args.goal.now) (Conjunction c.in-Conjunction.field-0 (nodes_of c.in-Conjunction.goals)) c.args.mark
-    c.args.tasks.now.items c.leave.new.tasks.items c.args.code.now c.args.code.now (sym c.view.ensures ∙ ap viewed c.in-Conjunction.is)
-    (conjuncts_start single c.in-Conjunction.field-0 c.in-Conjunction.goals c.args.mark c.args.tasks.now.items c.leave.new.tasks.items c.args.code.now left)) c.leave.ensures
+    on_ok_weaker c.start_conjunction.result (λ started single. performs_goal single (goal_of c.args.goal.now) (Conjunction c.in-Conjunction.running (nodes_of c.in-Conjunction.goals))
+    c.args.mark c.args.tasks.now.items c.start_conjunction.new.tasks.items c.args.code.now c.start_conjunction.new.code (sym c.view.ensures ∙ ap viewed c.in-Conjunction.is) (started single))
+    c.start_conjunction.ensures
 
 pub returns-in-Conditional : goal.returns-in-Conditional
 returns-in-Conditional c =
@@ -23,10 +23,10 @@ returns-in-Conditional c =
 
 pub returns-in-Quantified : goal.returns-in-Quantified
 returns-in-Quantified c =
-    on_ok_weaker c.leave-in-Quantified.result (λ left single. performs_goal single (goal_of c.args.goal.now) (Quantified c.in-Quantified.field-0.now c.in-Quantified.inner) c.args.mark
-    c.args.tasks.now.items c.leave-in-Quantified.new.tasks.items c.args.code.now c.args.code.now (sym c.view.ensures ∙ ap viewed c.in-Quantified.is)
-    (quantified_start single c.in-Quantified.field-0.now c.in-Quantified.inner c.args.mark c.args.tasks.now.items c.leave-in-Quantified.new.tasks.items c.args.code.now left))
-    c.leave-in-Quantified.ensures
+    on_ok_weaker c.leave.result (λ left single. performs_goal single (goal_of c.args.goal.now) (Quantified c.in-Quantified.field-0.now c.in-Quantified.inner) c.args.mark
+    c.args.tasks.now.items c.leave.new.tasks.items c.args.code.now c.args.code.now (sym c.view.ensures ∙ ap viewed c.in-Quantified.is)
+    (quantified_start single c.in-Quantified.field-0.now c.in-Quantified.inner c.args.mark c.args.tasks.now.items c.leave.new.tasks.items c.args.code.now left))
+    c.leave.ensures
 
 pub returns-in-Disjunction : goal.returns-in-Disjunction
 returns-in-Disjunction c =

@@ -1,4 +1,4 @@
-use Rattle.merc_gen.proofs.laws.states_yield_one_run.Goals as goal
+use Rattle.merc_gen.proofs.laws.states_yield_one_course.Goals as goal
 use Rattle.merc_gen.proofs.OneRun.{one-run}
 
 abbrev pub returns : goal.returns
