@@ -4,3 +4,4 @@ mod Joins
 mod Naming
 mod Reaching
 mod StealingExamples
+mod Dealing

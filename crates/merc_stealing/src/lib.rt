@@ -5,12 +5,15 @@
 pub mod board;
 pub mod branch;
 pub mod calls;
+pub mod cells;
 pub mod children;
 pub mod formed;
 pub mod freeing;
+pub mod making;
 pub mod mooring;
 pub mod named;
 pub mod opening;
+pub mod placing;
 pub mod seat;
 pub mod sparking;
 pub mod types;
