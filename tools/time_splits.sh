@@ -17,7 +17,7 @@ trap 'exit 2' INT TERM HUP
 # crate, so the program's text has another name here.
 uses='merc_base merc_goal_tree merc_graded_tree merc_par_split merc_plan'
 mkdir -p "$room/crates/splits/src" && cp benches/splits/src/main.rt.txt "$room/crates/splits/src/main.rt" && cp HANDLES "$room" || fail "$room cannot be written"
-for crate in merc_value merc_tree merc_meaning merc_script merc_core merc_course $uses; do
+for crate in merc_value merc_tree merc_meaning merc_script merc_core merc_course merc_rights $uses; do
     mkdir "$room/crates/$crate" &&
         cp -R "crates/$crate/src" "crates/$crate/specs" "crates/$crate/proofs" "$room/crates/$crate" &&
         grep "^$crate:" crates.txt || fail "$crate cannot be copied"

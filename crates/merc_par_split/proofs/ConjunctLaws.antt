@@ -6,28 +6,17 @@ use Rattle.std.proofs.lemmas.Bool.Decides.{nat_tests}
 use Rattle.std.proofs.lemmas.List.{append_assoc, append-nil, map-append}
 use Rattle.merc_graded_tree.specs.Nodes.{Node, Nodes, nodes_of, outputs_of}
 use Rattle.merc_graded_tree.specs.Variables.{among, in_node}
-use Rattle.merc_par_split.specs.Members.{uses_it, wait_shares, consumers_behind, waits_at}
-use Rattle.merc_par_split.specs.Outcomes.{rights_of, fresh, moves}
-use Rattle.merc_par_split.specs.Rights.{right_to, used_in, users}
-use Rattle.merc_par_split.specs.Rows.{row_of, numbers_from, each_from}
+use Rattle.merc_rights.specs.Members.{uses_it, wait_shares, consumers_behind, waits_at}
+use Rattle.merc_rights.specs.Waits.{rights_of, fresh, moves}
+use Rattle.merc_rights.specs.Rights.{right_to, used_in, users}
+use Rattle.merc_rights.specs.Rows.{row_of, numbers_from, each_from}
 use Rattle.merc_par_split.specs.Sites.{consumers}
-use Rattle.merc_par_split.specs.declared.rights.Awaited.{Awaited}
-use Rattle.merc_par_split.proofs.Indexes.{row-append}
+use Rattle.merc_rights.specs.declared.rights.Awaited.{Awaited}
+use Rattle.merc_rights.proofs.FlatLaws.{row-flat, flat-same, flat-append, flat-none, row-at}
+use Rattle.merc_rights.proofs.Indexes.{row-append}
 use Rattle.merc_par_split.proofs.ShareLaws.{le-none, flat-those, flat-map-those}
 
 -- what each item gives, in rows
-
-pub row-flat : {A X : Type 0} (number : ℕ) (f : A → List (ℕ × X)) (list : List A) → row_of number (flat_map f list) ≡ flat_map (λ a. row_of number (f a)) list
-row-flat number f [] = refl
-row-flat number f (first ∷ rest) = row-append number (f first) (flat_map f rest) ∙ ap (λ r. row_of number (f first) ++ r) (row-flat number f rest)
-
-pub flat-same : {A X : Type 0} (f g : A → List X) (same : (a : A) → f a ≡ g a) (list : List A) → flat_map f list ≡ flat_map g list
-flat-same f g same [] = refl
-flat-same f g same (first ∷ rest) = ap (λ r. r ++ flat_map f rest) (same first) ∙ ap (λ r. g first ++ r) (flat-same f g same rest)
-
-pub flat-append : {A X : Type 0} (f : A → List X) (one other : List A) → flat_map f (one ++ other) ≡ flat_map f one ++ flat_map f other
-flat-append f [] other = refl
-flat-append f (first ∷ rest) other = ap (λ r. f first ++ r) (flat-append f rest other) ∙ sym (append_assoc (f first) (flat_map f rest) (flat_map f other))
 
 pub row-each : {A X : Type 0} (number start : ℕ) (f : ℕ → A → List (ℕ × X)) (list : List A) → row_of number (each_from f start list) ≡ each_from (λ n a. row_of number (f n a)) start list
 row-each number start f [] = refl
@@ -50,43 +39,6 @@ pub each-behind : {A X : Type 0} (f : ℕ → A → List X) (number : ℕ) (is :
 each-behind f number is start [] past = refl
 each-behind f number is start (first ∷ rest) past =
     ap (λ r. r ++ each_from f (suc start) rest) (is start first past) ∙ each-behind f number is (suc start) rest (omega (arith, past))
-
-pub flat-none : {A X : Type 0} (f : A → List X) (none : (a : A) → f a ≡ []) (list : List A) → flat_map f list ≡ []
-flat-none f none [] = refl
-flat-none f none (first ∷ rest) = ap (λ r. r ++ flat_map f rest) (none first) ∙ flat-none f none rest
-
--- the numbers of such items, in rows
-
-module _ {Y : Type 0} (f : ℕ → Y) where
-  abbrev paired : List ℕ → List (ℕ × Y)
-  paired numbers = map (λ n. (n, f n)) numbers
-
-  skip : (number start : ℕ) (b : Bool) (list : List ℕ) → (start == number) ≡ false → row_of number (paired (if b then start ∷ list else list)) ≡ row_of number (paired list)
-  skip number start true list other = ap (λ b. if b then f start ∷ row_of number (paired list) else row_of number (paired list)) other
-  skip number start false list other = refl
-
-  here : (number : ℕ) (b : Bool) (list : List ℕ) → row_of number (paired list) ≡ [] → row_of number (paired (if b then number ∷ list else list)) ≡ (if b then f number ∷ [] else [])
-  here number true list none =
-      let e : (number == number) ≡ true = grind (arith, nat_tests) in
-      ap (λ b. if b then f number ∷ row_of number (paired list) else row_of number (paired list)) e ∙ ap (λ r. f number ∷ r) none
-  here number false list none = none
-
-  module _ {X : Type 0} (such : X → Bool) (from : ℕ) where
-    rows-none : (number start : ℕ) (items : List X) → number < start → row_of number (paired (numbers_from such from start items)) ≡ []
-    rows-none number start [] less = refl
-    rows-none number start (first ∷ rest) less =
-        skip number start (nat_le from start && such first) (numbers_from such from (suc start) rest) (grind (arith, nat_tests, less)) ∙ rows-none number (suc start) rest (omega (arith, less))
-
-    row-at : (number start : ℕ) (front : List X) (first : X) (rest : List X) → start + length front ≡ number
-        → row_of number (paired (numbers_from such from start (front ++ first ∷ rest))) ≡ (if nat_le from number && such first then f number ∷ [] else [])
-    row-at number start [] first rest is =
-        let e : start ≡ number = omega (arith, is) in
-        ap (λ n. row_of number (paired (numbers_from such from n (first ∷ rest)))) e
-        ∙ here number (nat_le from number && such first) (numbers_from such from (suc number) rest) (rows-none number (suc number) rest (omega arith))
-    row-at number start (next ∷ front) first rest is =
-        let less : start < number = omega (arith, is) in
-        skip number start (nat_le from start && such next) (numbers_from such from (suc start) (front ++ first ∷ rest)) (grind (arith, nat_tests, less))
-        ∙ row-at number (suc start) front first rest (omega (arith, is))
 
 -- conjuncts that use a variable
 

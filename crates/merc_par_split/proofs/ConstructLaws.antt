@@ -14,13 +14,14 @@ use Rattle.merc_graded_tree.specs.RootLaws.{last_joined_is, nodes_of-list_of}
 use Rattle.merc_graded_tree.specs.Labels.{labels_of}
 use Rattle.merc_graded_tree.specs.Variables.{in_node}
 use Rattle.merc_par_split.specs.Constructs.{whole_tasks, turn_tasks, arm_tasks, switch_tasks, conditional_tasks}
-use Rattle.merc_par_split.specs.Members.{turn_wait, turn_signal, wait_shares, signal_shares, pass_shares}
-use Rattle.merc_par_split.specs.Outcomes.{rights_of, those_waits, others, is_passed, outcome, entered, in_turn, armed, alone}
-use Rattle.merc_par_split.specs.Rights.{Right, wait_at, signal_at, bound_in, around, ahead_of}
-use Rattle.merc_par_split.specs.Rows.{row_of}
+use Rattle.merc_rights.specs.Members.{turn_wait, turn_signal, wait_shares, signal_shares, pass_shares}
+use Rattle.merc_par_split.specs.Outcomes.{is_passed, outcome, entered, in_turn, armed, alone}
+use Rattle.merc_rights.specs.Waits.{rights_of, those_waits, others}
+use Rattle.merc_rights.specs.Rights.{Right, wait_at, signal_at, bound_in, around, ahead_of}
+use Rattle.merc_rights.specs.Rows.{row_of}
 use Rattle.merc_par_split.specs.Tasks.{Progress, with_goals, with_outcome, after_all, shares_of, shared, member_tasks, relabelled, framed}
-use Rattle.merc_par_split.specs.declared.rights.Awaited.{Awaited}
-use Rattle.merc_par_split.specs.declared.sites.SiteInfo.{SiteInfo}
+use Rattle.merc_rights.specs.declared.rights.Awaited.{Awaited}
+use Rattle.merc_rights.specs.declared.sites.SiteInfo.{SiteInfo}
 use Rattle.merc_par_split.specs.declared.tasks.Placing.{Placing}
 use Rattle.merc_par_split.specs.declared.tasks.Task.TheVariants.{Place, Signals, Close}
 use Rattle.merc_par_split.proofs.ShareLaws.{turns, chosen, choices, alones}

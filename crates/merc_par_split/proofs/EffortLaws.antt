@@ -7,10 +7,11 @@ use Rattle.merc_graded_tree.specs.declared.entries.Root.{Root}
 use Rattle.merc_graded_tree.specs.Nodes.{Node, node, goal_of, Nodes, no_nodes, more_nodes, Arms, no_arms, more_arms, list_of}
 use Rattle.merc_graded_tree.specs.Roots.{arity_of, bodies_of, label_of}
 use Rattle.merc_graded_tree.specs.Labels.{labels_of, inner_labels, joined_labels, arm_labels, all_labels}
-use Rattle.merc_par_split.specs.Rights.{Right}
-use Rattle.merc_par_split.specs.Rows.{row_of}
-use Rattle.merc_par_split.specs.Tasks.{HaveEnough, effort, total, Lies, AllLie, Share, shares_of, wraps, passing, member_tasks, closed, framed}
-use Rattle.merc_par_split.specs.declared.rights.Awaited.{Awaited}
+use Rattle.merc_rights.specs.Rights.{Right}
+use Rattle.merc_rights.specs.Rows.{row_of}
+use Rattle.merc_par_split.specs.Tasks.{HaveEnough, effort, total, AllLie, Share, shares_of, wraps, passing, member_tasks, closed, framed}
+use Rattle.merc_rights.specs.Places.{Lies}
+use Rattle.merc_rights.specs.declared.rights.Awaited.{Awaited}
 use Rattle.merc_par_split.specs.declared.tasks.Task.{Task}
 
 -- from so many goals tasks lead to so many

@@ -15,12 +15,13 @@ use Rattle.merc_graded_tree.specs.Roots.{arity_of, arms_of, bodies_of}
 use Rattle.merc_graded_tree.specs.Labels.{labels_of, inner_labels, arm_labels, all_labels}
 use Rattle.merc_graded_tree.specs.Variables.{in_node}
 use Rattle.merc_par_split.specs.Constructs.{whole_tasks, turn_tasks, arm_tasks, switch_tasks, conditional_tasks, LeavesConjuncts, LeavesRunning}
-use Rattle.merc_par_split.specs.Members.{turn_wait, turn_signal, wait_shares, signal_shares, pass_shares}
-use Rattle.merc_par_split.specs.Outcomes.{rights_of, those_waits, others, stays}
-use Rattle.merc_par_split.specs.Rights.{Right, right_to}
-use Rattle.merc_par_split.specs.Tasks.{with_outcome, node_entered, after_all, HaveEnough, effort, total, Lies, AllLie, Performs, shares_of, member_tasks, relabelled, framed}
-use Rattle.merc_par_split.specs.declared.rights.Awaited.{Awaited}
-use Rattle.merc_par_split.specs.declared.sites.SiteInfo.{SiteInfo}
+use Rattle.merc_rights.specs.Members.{turn_wait, turn_signal, wait_shares, signal_shares, pass_shares}
+use Rattle.merc_rights.specs.Waits.{rights_of, those_waits, others, stays}
+use Rattle.merc_rights.specs.Rights.{Right, right_to}
+use Rattle.merc_par_split.specs.Tasks.{with_outcome, node_entered, after_all, HaveEnough, effort, total, AllLie, Performs, shares_of, member_tasks, relabelled, framed}
+use Rattle.merc_rights.specs.Places.{Lies}
+use Rattle.merc_rights.specs.declared.rights.Awaited.{Awaited}
+use Rattle.merc_rights.specs.declared.sites.SiteInfo.{SiteInfo}
 use Rattle.merc_par_split.specs.declared.tasks.Placing.{Placing}
 use Rattle.merc_par_split.specs.declared.tasks.Task.{Task}
 use Rattle.merc_par_split.specs.declared.tasks.Task.TheVariants.{Place, Enter, Waits, Signals, Close}
@@ -28,6 +29,7 @@ use Rattle.merc_par_split.proofs.StepLaws.{at_with, after-append}
 use Rattle.merc_par_split.proofs.ConstructLaws.{list-nodes, entered_as, turn_same, basic_same, disjunction_same, negation_same, quantified_same, switch_same, conditional_same}
 use Rattle.merc_par_split.proofs.SideLaws.{site_frame, conjunct_tasks, tasks_are, conjuncts_same}
 use Rattle.merc_par_split.proofs.EffortLaws.{Goes, goes-append, members_go, framed_go, total-append, labels-count, members-effort, framed-effort, lies-front, lies-back, lies-inner, joined-all, armed-all, Lie, lie-append, members-lie, framed-lie}
+use Rattle.merc_rights.specs.Groups.{numbered}
 
 shares-length : (number : ℕ) (goals : List Node) (waits : List (ℕ × Awaited)) (signals passed : List (ℕ × Right)) → length (shares_of number goals waits signals passed) ≡ length goals
 shares-length number [] waits signals passed = refl
@@ -186,7 +188,7 @@ module _ (whole : Node) (placing : Placing) (goals : List Node) (sites : List Si
   conjuncts_perform unknown list sites' tasks tasks' is leaves =
       let members = conjunct_tasks placing list sites sites' tasks tasks' leaves in
       let waits = leaves.with_moved.waits.items in
-      let signals = leaves.with_moved.signals.items in
+      let signals = numbered leaves.with_moved.signals.items in
       let root = ConjunctionRoot (Parallel (Some (record { number = length sites }))) (length list) in
       let before = rights_of (filter (stays (nodes_of list)) placing.waits) in
       let behind = Waits (map (right_to 0) (outputs_of placing.goal)) (span_of placing.goal) in

@@ -1,33 +1,41 @@
 -- Tasks that are left for the goals which a goal joins.
-use Rattle.std.specs.Prelude.{◌≡◌, ◌+◌, ℕ, suc, List, [], ◌∷◌, ◌++◌, length, map, take, slice_index_or, Result, Ok, Err, OnOk, refl}
+use Rattle.std.specs.Prelude.{◌≡◌, ◌==◌, ◌+◌, ℕ, suc, List, [], ◌∷◌, ◌++◌, length, take, slice_index_or, Result, Ok, Err, OnOk, refl}
 use Rattle.std.specs.List.{filter, flat_map}
 use Rattle.std.proofs.Common.{◌∙◌, ap, sym, subst, arith}
 use Rattle.std.proofs.Math.Seq.{take-append_seam}
-use Rattle.std.proofs.lemmas.List.{append_assoc, append-nil, length-append}
+use Rattle.std.proofs.lemmas.List.{append_assoc, append-nil, length-append, length-map}
 use Rattle.merc_base.specs.declared.place.Span.{Span}
 use Rattle.merc_graded_tree.specs.declared.entries.Label.{Label}
-use Rattle.merc_graded_tree.specs.declared.entries.Root.TheVariants.{Conjunction, Conditional}
+use Rattle.merc_goal_tree.specs.declared.goal.Symbol.{Symbol}
+use Rattle.merc_graded_tree.specs.declared.entries.Root.{Root}
+use Rattle.merc_graded_tree.specs.declared.entries.Root.TheVariants.{Conjunction, Conditional, Switch}
 use Rattle.merc_graded_tree.specs.declared.entries.Running.TheVariants.{Sequential}
-use Rattle.merc_graded_tree.specs.Nodes.{Node, outputs_of, span_of, nodes_of}
+use Rattle.merc_graded_tree.specs.Nodes.{Node, span_of, nodes_of}
 use Rattle.merc_graded_tree.specs.Labels.{labels_of, all_labels}
 use Rattle.merc_graded_tree.specs.Variables.{in_node}
-use Rattle.merc_par_split.specs.Rights.{Right}
-use Rattle.merc_par_split.specs.Rows.{row_of}
-use Rattle.merc_par_split.specs.Members.{turn_wait, turn_signal, wait_shares, signal_shares, pass_shares, move_of, Finds, Adds}
-use Rattle.merc_par_split.specs.Outcomes.{rights_of, those_waits, others, moves, stays}
-use Rattle.merc_par_split.specs.Constructs.{turn_tasks, arm_tasks, conditional_tasks, site_tasks, LeavesConjuncts}
-use Rattle.merc_par_split.specs.Tasks.{Lies, Share, starts_of, shares_of, relabelled, passing, member_tasks, closed}
-use Rattle.merc_par_split.specs.declared.conjuncts.Found.{Found}
-use Rattle.merc_par_split.specs.declared.rights.Awaited.{Awaited}
-use Rattle.merc_par_split.specs.declared.sites.SiteInfo.{SiteInfo}
+use Rattle.merc_rights.specs.Rights.{Right}
+use Rattle.merc_rights.specs.Rows.{row_of}
+use Rattle.merc_rights.specs.Groups.{numbered}
+use Rattle.merc_rights.specs.Members.{turn_wait, turn_signal, wait_shares, signal_shares, pass_shares}
+use Rattle.merc_rights.specs.Waits.{rights_of, those_waits, others, moves, stays}
+use Rattle.merc_par_split.specs.Constructs.{whole_tasks, turn_tasks, arm_tasks, switch_tasks, conditional_tasks, site_tasks, FindsMoved, LeavesConjuncts}
+use Rattle.merc_par_split.specs.Tasks.{Share, shares_of, relabelled, wraps, passing, member_tasks, closed}
+use Rattle.merc_rights.specs.Places.{Lies, starts_of}
+use Rattle.merc_rights.specs.declared.conjuncts.Found.{Found}
+use Rattle.merc_rights.specs.declared.rights.Awaited.{Awaited}
+use Rattle.merc_rights.specs.declared.sites.SiteInfo.{SiteInfo}
 use Rattle.merc_par_split.specs.declared.tasks.Placing.{Placing}
 use Rattle.merc_par_split.specs.declared.tasks.Task.{Task}
 use Rattle.merc_par_split.specs.declared.tasks.Task.TheVariants.{Place, Waits, Signals, Close}
-use Rattle.merc_par_split.proofs.MemberLaws.{all_labels-append, start_at}
+use Rattle.merc_rights.proofs.MemberLaws.{all_labels-append, start_at}
 
 pub ok_weaker : {X Y : Type 0} (result : Result X Y) (P Q : Type 0) → (P → Q) → OnOk result P → OnOk result Q
 ok_weaker (Ok x) P Q f holds = f holds
 ok_weaker (Err e) P Q f holds = holds
+
+pub ok_both : {X Y : Type 0} (result : Result X Y) (P Q R : Type 0) → (P → Q → R) → OnOk result P → OnOk result Q → OnOk result R
+ok_both (Ok x) P Q R f one other = f one other
+ok_both (Err e) P Q R f one other = one
 
 abbrev placed : Node → ℕ → List Awaited → List Right → Task
 placed goal first waits signals = Place (record { goal = goal; first = first; waits = waits; signals = signals })
@@ -116,15 +124,46 @@ turns_left placing goals listed start count own binds waits signals passed label
     ∙ sym (append_assoc inner (Close root ∷ []) tasks)
 
 -- goals of which one is chosen
-pub arms_left : (goals listed : List Node) (first start : ℕ) (own : List Awaited) (binds : List Right) (none found waits : List (ℕ × Awaited)) (signals passed : List (ℕ × Right)) (tasks now : List Task)
-    → listed ≡ goals → start ≡ first → none ≡ [] → found ≡ none ++ flat_map (wait_shares listed) own → ((n : ℕ) → row_of n waits ≡ row_of n found)
+pub arms_left : (goals listed : List Node) (first start : ℕ) (own : List Awaited) (binds : List Right) (waits : List (ℕ × Awaited)) (signals passed : List (ℕ × Right)) (tasks now : List Task)
+    → listed ≡ goals → start ≡ first → ((n : ℕ) → row_of n waits ≡ row_of n (flat_map (wait_shares listed) own))
     → ((n : ℕ) → row_of n signals ≡ row_of n (flat_map (signal_shares listed) binds)) → ((n : ℕ) → row_of n passed ≡ row_of n (flat_map (pass_shares listed) own))
     → now ≡ member_tasks start (shares_of 0 listed waits signals passed) ++ tasks → now ≡ arm_tasks goals first own binds ++ tasks
-arms_left goals listed first start own binds none found waits signals passed tasks now g f z e ws ss ps is =
+arms_left goals listed first start own binds waits signals passed tasks now g f ws ss ps is =
     members_left first start goals listed (flat_map (wait_shares goals) own) waits (flat_map (signal_shares goals) binds) signals (flat_map (pass_shares goals) own) passed tasks now f g
-    (λ n. ws n ∙ ap (λ l. row_of n l) (e ∙ ap (λ l. l ++ flat_map (wait_shares listed) own) z ∙ ap (λ l. flat_map (wait_shares l) own) g))
+    (λ n. ws n ∙ ap (λ l. row_of n (flat_map (wait_shares l) own)) g)
     (λ n. ss n ∙ ap (λ l. row_of n (flat_map (signal_shares l) binds)) g)
     (λ n. ps n ∙ ap (λ l. row_of n (flat_map (pass_shares l) own)) g) is
+
+-- what stands around a goal whose rights stay there
+pub whole_left : (placing placing' : Placing) (root : Root) (goals : List Node) (before : ℕ) (tasks t1 t2 t3 now : List Task)
+    → placing' ≡ record { goal = placing.goal; first = placing.first; waits = placing.waits; signals = [] } → before ≡ length placing.waits
+    → t1 ≡ Signals placing.signals (span_of placing.goal) ∷ (wraps (before + length placing.signals) placing.goal ++ tasks) → t2 ≡ Close (relabelled placing'.goal root) ∷ t1
+    → t3 ≡ member_tasks placing'.first (shares_of 0 goals [] [] []) ++ t2 → now ≡ Waits (rights_of placing'.waits) (span_of placing'.goal) ∷ t3 → now ≡ whole_tasks placing root goals ++ tasks
+whole_left placing placing' root goals before tasks t1 t2 t3 now same count e1 e2 e3 e =
+    let inner = member_tasks placing.first (shares_of 0 goals [] [] []) in
+    let behind = Signals placing.signals (span_of placing.goal) in
+    let end = closed placing.goal root (length (rights_of placing.waits)) behind (length placing.signals) in
+    let ends : t2 ≡ end ++ tasks =
+    e2 ∙ ap (λ (p : Placing). Close (relabelled p.goal root) ∷ t1) same
+    ∙ ap (λ t. Close (relabelled placing.goal root) ∷ t) (e1 ∙ ap (λ n. behind ∷ (wraps (n + length placing.signals) placing.goal ++ tasks)) (count ∙ sym (length-map placing.waits (λ (w : Awaited). w.right)))) in
+    e ∙ ap (λ (p : Placing). Waits (rights_of p.waits) (span_of p.goal) ∷ t3) same
+    ∙ ap (λ t. Waits (rights_of placing.waits) (span_of placing.goal) ∷ t)
+    (e3 ∙ ap (λ (p : Placing). member_tasks p.first (shares_of 0 goals [] [] []) ++ t2) same ∙ ap (λ t. inner ++ t) ends ∙ sym (append_assoc inner end tasks))
+
+-- a switch
+pub switch_left : (placing : Placing) (variable : ℕ) (symbols : List Symbol) (goals : List Node) (before : List Right) (inside : List Awaited) (at : Span) (tasks t2 now : List Task)
+    → before ≡ rights_of (those_waits (λ other. other == variable) placing.waits) → inside ≡ those_waits (others (λ other. other == variable)) placing.waits → at ≡ span_of placing.goal
+    → t2 ≡ arm_tasks goals placing.first inside placing.signals ++ (closed placing.goal (Switch variable symbols) (length before) (Signals [] (span_of placing.goal)) 0 ++ tasks) → now ≡ Waits before at ∷ t2
+    → now ≡ switch_tasks placing variable symbols goals ++ tasks
+switch_left placing variable symbols goals before inside at tasks t2 now b i v e2 e =
+    let own = rights_of (those_waits (λ other. other == variable) placing.waits) in
+    let rest = those_waits (others (λ other. other == variable)) placing.waits in
+    let inner = arm_tasks goals placing.first rest placing.signals in
+    let end = closed placing.goal (Switch variable symbols) (length own) (Signals [] (span_of placing.goal)) 0 in
+    e ∙ ap (λ l. Waits l at ∷ t2) b ∙ ap (λ w. Waits own w ∷ t2) v
+    ∙ ap (λ t. Waits own (span_of placing.goal) ∷ t)
+    (e2 ∙ ap (λ l. arm_tasks goals placing.first l placing.signals ++ (closed placing.goal (Switch variable symbols) (length before) (Signals [] (span_of placing.goal)) 0 ++ tasks)) i
+    ∙ ap (λ l. inner ++ (closed placing.goal (Switch variable symbols) (length l) (Signals [] (span_of placing.goal)) 0 ++ tasks)) b ∙ sym (append_assoc inner end tasks))
 
 -- behind a condition
 pub lie_past : (all : List Label) (condition then_part else_part : Node) (first past size : ℕ) (arms : List Node)
@@ -141,68 +180,85 @@ lie_past all condition then_part else_part first past size arms lies p s are = r
   count = length-append lies.front (labels_of condition) ∙ ap (λ n. n + length (labels_of condition)) lies.count ∙ sym (p ∙ ap (λ n. first + n) s);
 }
 
-pub conditional_left : (placing : Placing) (condition then_part else_part : Node) (past size count : ℕ) (before none : List Right) (inside : List Awaited) (binds : List Right) (arms : List Node) (at at' : Span)
-    (asked : Task) (tasks t1 t2 t3 now : List Task)
-    → past ≡ placing.first + size → size ≡ length (labels_of condition) → arms ≡ then_part ∷ else_part ∷ []
-    → before ≡ rights_of (those_waits (in_node condition) placing.waits) → inside ≡ those_waits (others (in_node condition)) placing.waits → binds ≡ placing.signals
-    → none ≡ [] → count ≡ length before → at ≡ span_of placing.goal → at' ≡ span_of placing.goal → asked ≡ placed condition placing.first [] []
-    → t1 ≡ closed placing.goal Conditional count (Signals none at) 0 ++ tasks → t2 ≡ arm_tasks arms past inside binds ++ t1 → t3 ≡ asked ∷ t2 → now ≡ Waits before at' ∷ t3
+pub conditional_left : (placing : Placing) (condition then_part else_part : Node) (before : List Right) (inside : List Awaited) (at : Span) (tasks t3 now : List Task)
+    → before ≡ rights_of (those_waits (in_node condition) placing.waits) → inside ≡ those_waits (others (in_node condition)) placing.waits → at ≡ span_of placing.goal
+    → t3 ≡ placed condition placing.first [] [] ∷ (arm_tasks (then_part ∷ else_part ∷ []) (placing.first + length (labels_of condition)) inside placing.signals
+    ++ (closed placing.goal Conditional (length before) (Signals [] (span_of placing.goal)) 0 ++ tasks))
+    → now ≡ Waits before at ∷ t3
     → now ≡ conditional_tasks placing condition then_part else_part ++ tasks
-conditional_left placing condition then_part else_part past size count before none inside binds arms at at' asked tasks t1 t2 t3 now p s a b i g z k v v' q e1 e2 e3 e =
+conditional_left placing condition then_part else_part before inside at tasks t3 now b i v e3 e =
     let own = rights_of (those_waits (in_node condition) placing.waits) in
     let rest = those_waits (others (in_node condition)) placing.waits in
     let behind = placing.first + length (labels_of condition) in
     let pair = then_part ∷ else_part ∷ [] in
     let inner = arm_tasks pair behind rest placing.signals in
     let end = closed placing.goal Conditional (length own) (Signals [] (span_of placing.goal)) 0 in
-    let ends : t1 ≡ end ++ tasks =
-    e1 ∙ ap (λ n. closed placing.goal Conditional n (Signals none at) 0 ++ tasks) (k ∙ ap length b)
-    ∙ ap (λ l. closed placing.goal Conditional (length own) (Signals l at) 0 ++ tasks) z
-    ∙ ap (λ w. closed placing.goal Conditional (length own) (Signals [] w) 0 ++ tasks) v in
-    let arms_are : arm_tasks arms past inside binds ≡ inner =
-    ap (λ l. arm_tasks l past inside binds) a ∙ ap (λ n. arm_tasks pair n inside binds) (p ∙ ap (λ n. placing.first + n) s)
-    ∙ ap (λ l. arm_tasks pair behind l binds) i ∙ ap (λ l. arm_tasks pair behind rest l) g in
-    e ∙ ap (λ l. Waits l at' ∷ t3) b ∙ ap (λ w. Waits own w ∷ t3) v'
-    ∙ ap (λ t. Waits own (span_of placing.goal) ∷ t) (e3 ∙ ap (λ t. t ∷ t2) q
-    ∙ ap (λ t. placed condition placing.first [] [] ∷ t) (e2 ∙ ap (λ l. l ++ t1) arms_are ∙ ap (λ l. inner ++ l) ends ∙ sym (append_assoc inner end tasks)))
+    e ∙ ap (λ l. Waits l at ∷ t3) b ∙ ap (λ w. Waits own w ∷ t3) v
+    ∙ ap (λ t. Waits own (span_of placing.goal) ∷ t) (e3
+    ∙ ap (λ t. placed condition placing.first [] [] ∷ t)
+    (ap (λ l. arm_tasks pair behind l placing.signals ++ (closed placing.goal Conditional (length before) (Signals [] (span_of placing.goal)) 0 ++ tasks)) i
+    ∙ ap (λ l. inner ++ (closed placing.goal Conditional (length l) (Signals [] (span_of placing.goal)) 0 ++ tasks)) b ∙ sym (append_assoc inner end tasks)))
+
+pub asked_left : (placing taken : Placing) (condition then_part else_part : Node) (past size : ℕ) (inside : List Awaited) (binds : List Right) (arms : List Node) (asked : Task) (tasks t2 now : List Task)
+    → taken ≡ record { goal = placing.goal; first = placing.first; waits = placing.waits; signals = [] } → past ≡ placing.first + size → size ≡ length (labels_of condition)
+    → arms ≡ then_part ∷ else_part ∷ [] → binds ≡ placing.signals → asked ≡ placed condition taken.first [] [] → t2 ≡ arm_tasks arms past inside binds ++ tasks → now ≡ asked ∷ t2
+    → now ≡ placed condition placing.first [] [] ∷ (arm_tasks (then_part ∷ else_part ∷ []) (placing.first + length (labels_of condition)) inside placing.signals ++ tasks)
+asked_left placing taken condition then_part else_part past size inside binds arms asked tasks t2 now same p s a g q e2 e =
+    let pair = then_part ∷ else_part ∷ [] in
+    let behind = placing.first + length (labels_of condition) in
+    e ∙ ap (λ t. t ∷ t2) (q ∙ ap (λ (p : Placing). placed condition p.first [] []) same)
+    ∙ ap (λ t. placed condition placing.first [] [] ∷ t)
+    (e2 ∙ ap (λ l. arm_tasks l past inside binds ++ tasks) a ∙ ap (λ n. arm_tasks pair n inside binds ++ tasks) (p ∙ ap (λ n. placing.first + n) s) ∙ ap (λ l. arm_tasks pair behind inside l ++ tasks) g)
+
+pub conditional_inside : (placing : Placing) (condition then_part else_part : Node) (count behind : ℕ) (before : List Right) (inside inside' : List Awaited) (tasks t1 t2 now : List Task)
+    → inside' ≡ inside → count ≡ length before → t1 ≡ Signals [] (span_of placing.goal) ∷ (wraps (count + 0) placing.goal ++ tasks) → t2 ≡ Close (relabelled placing.goal Conditional) ∷ t1
+    → now ≡ placed condition placing.first [] [] ∷ (arm_tasks (then_part ∷ else_part ∷ []) behind inside' placing.signals ++ t2)
+    → now ≡ placed condition placing.first [] [] ∷ (arm_tasks (then_part ∷ else_part ∷ []) behind inside placing.signals
+    ++ (closed placing.goal Conditional (length before) (Signals [] (span_of placing.goal)) 0 ++ tasks))
+conditional_inside placing condition then_part else_part count behind before inside inside' tasks t1 t2 now i k e1 e2 e =
+    let pair = then_part ∷ else_part ∷ [] in
+    let asked = placed condition placing.first [] [] in
+    e ∙ ap (λ l. asked ∷ (arm_tasks pair behind l placing.signals ++ t2)) i
+    ∙ ap (λ t. asked ∷ (arm_tasks pair behind inside placing.signals ++ t))
+    (e2 ∙ ap (λ t. Close (relabelled placing.goal Conditional) ∷ t) (e1 ∙ ap (λ n. Signals [] (span_of placing.goal) ∷ (wraps (n + 0) placing.goal ++ tasks)) k))
+
+pub switch_inside : (placing taken : Placing) (goals listed : List Node) (inside inside' : List Awaited) (binds : List Right) (end t1 now : List Task)
+    → taken ≡ record { goal = placing.goal; first = placing.first; waits = placing.waits; signals = [] } → listed ≡ goals → inside' ≡ inside → binds ≡ placing.signals → t1 ≡ end
+    → now ≡ arm_tasks listed taken.first inside' binds ++ t1 → now ≡ arm_tasks goals placing.first inside placing.signals ++ end
+switch_inside placing taken goals listed inside inside' binds end t1 now same g i s e1 e =
+    e ∙ ap (λ (p : Placing). arm_tasks listed p.first inside' binds ++ t1) same ∙ ap (λ l. arm_tasks l placing.first inside' binds ++ t1) g
+    ∙ ap (λ l. arm_tasks goals placing.first l binds ++ t1) i ∙ ap (λ l. arm_tasks goals placing.first inside l ++ t1) s ∙ ap (λ l. arm_tasks goals placing.first inside placing.signals ++ l) e1
 
 -- side by side
 
 abbrev site_of : ℕ → Found → SiteInfo
 site_of children found = record { children = children; cells = found.cells.items; moves = found.moves.items }
 
-abbrev MovedIn : Found → Found → List Node → List Awaited → Type 0
-MovedIn found moved goals inside = Adds found moved [] (map move_of (flat_map (wait_shares goals) inside)) (flat_map (wait_shares goals) inside) []
-
-pub conjuncts_left : (placing : Placing) (goals listed : List Node) (start children number count : ℕ) (own inside : List Awaited) (outputs : List ℕ) (binds before : List Right) (found moved : Found)
-    (at : Span) (sites sites' : List SiteInfo) (tasks t1 t2 now : List Task)
-    → listed ≡ goals → start ≡ placing.first → own ≡ placing.waits → outputs ≡ outputs_of placing.goal → binds ≡ placing.signals → at ≡ span_of placing.goal
-    → before ≡ rights_of (filter (stays (nodes_of listed)) own) → inside ≡ filter (moves (nodes_of listed)) own
-    → Finds listed outputs binds found → Adds found moved [] (map move_of (flat_map (wait_shares listed) inside)) (flat_map (wait_shares listed) inside) []
-    → children ≡ length listed → number ≡ length sites → count ≡ length before
-    → sites' ≡ sites ++ record { children = length listed; cells = moved.cells.items; moves = moved.moves.items } ∷ []
-    → t1 ≡ site_tasks placing.goal children number count ++ tasks → t2 ≡ member_tasks start (shares_of 0 listed moved.waits.items moved.signals.items []) ++ t1 → now ≡ Waits before at ∷ t2
+pub conjuncts_left : (placing : Placing) (goals listed : List Node) (start : ℕ) (inside : List Awaited) (before : List Right) (found : Found) (at : Span) (sites sites' : List SiteInfo) (tasks t2 now : List Task)
+    → listed ≡ goals → start ≡ placing.first → at ≡ span_of placing.goal
+    → before ≡ rights_of (filter (stays (nodes_of listed)) placing.waits) → inside ≡ filter (moves (nodes_of listed)) placing.waits → FindsMoved listed placing inside found
+    → sites' ≡ sites ++ site_of (length listed) found ∷ []
+    → t2 ≡ member_tasks start (shares_of 0 listed found.waits.items (numbered found.signals.items) []) ++ (site_tasks placing.goal (length listed) (length sites) (length before) ++ tasks) → now ≡ Waits before at ∷ t2
     → LeavesConjuncts placing goals sites sites' tasks now
-conjuncts_left placing goals listed start children number count own inside outputs binds before found moved at sites sites' tasks t1 t2 now g f w o b v be i finds adds k n c told e1 e2 e =
+conjuncts_left placing goals listed start inside before found at sites sites' tasks t2 now g f v be i finds told e2 e =
     let stay = rights_of (filter (stays (nodes_of goals)) placing.waits) in
-    let stay_is = be ∙ ap (λ l. rights_of (filter (stays (nodes_of l)) own)) g ∙ ap (λ l. rights_of (filter (stays (nodes_of goals)) l)) w in
-    let inside_is = i ∙ ap (λ l. filter (moves (nodes_of l)) own) g ∙ ap (λ l. filter (moves (nodes_of goals)) l) w in
-    let members = member_tasks placing.first (shares_of 0 goals moved.waits.items moved.signals.items []) in
-    let members_are : member_tasks start (shares_of 0 listed moved.waits.items moved.signals.items []) ≡ members =
-    ap (λ k. member_tasks k (shares_of 0 listed moved.waits.items moved.signals.items [])) f ∙ ap (λ l. member_tasks placing.first (shares_of 0 l moved.waits.items moved.signals.items [])) g in
-    let site_is : site_tasks placing.goal children number count ≡ site_tasks placing.goal (length goals) (length sites) (length stay) =
-    ap (λ k. site_tasks placing.goal k number count) (k ∙ ap length g) ∙ ap (λ k. site_tasks placing.goal (length goals) k count) n
-    ∙ ap (λ k. site_tasks placing.goal (length goals) (length sites) k) (c ∙ ap length stay_is) in
+    let stay_is = be ∙ ap (λ l. rights_of (filter (stays (nodes_of l)) placing.waits)) g in
+    let inside_is = i ∙ ap (λ l. filter (moves (nodes_of l)) placing.waits) g in
+    let members = member_tasks placing.first (shares_of 0 goals found.waits.items (numbered found.signals.items) []) in
+    let members_are : member_tasks start (shares_of 0 listed found.waits.items (numbered found.signals.items) []) ≡ members =
+    ap (λ k. member_tasks k (shares_of 0 listed found.waits.items (numbered found.signals.items) [])) f ∙ ap (λ l. member_tasks placing.first (shares_of 0 l found.waits.items (numbered found.signals.items) [])) g in
+    let site_is : site_tasks placing.goal (length listed) (length sites) (length before) ≡ site_tasks placing.goal (length goals) (length sites) (length stay) =
+    ap (λ k. site_tasks placing.goal k (length sites) (length before)) (ap length g) ∙ ap (λ k. site_tasks placing.goal (length goals) (length sites) k) (ap length stay_is) in
+    let all : FindsMoved goals placing (filter (moves (nodes_of goals)) placing.waits) found =
+    subst (λ l. FindsMoved goals placing l found) inside_is (subst (λ l. FindsMoved l placing inside found) g finds) in
     record {
-      found = found;
-      with_moved = moved;
-      finds =
-          subst (λ l. Finds l (outputs_of placing.goal) placing.signals found) g
-          (subst (λ l. Finds listed l placing.signals found) o (subst (λ l. Finds listed outputs l found) b finds));
-      adds = subst (λ l. MovedIn found moved goals l) inside_is (subst (λ l. MovedIn found moved l inside) g adds);
-      told = told ∙ ap (λ l. sites ++ site_of (length l) moved ∷ []) g;
+      found = all.own;
+      with_moved = found;
+      finds = all.finds;
+      adds = all.adds;
+      told = told ∙ ap (λ l. sites ++ site_of (length l) found ∷ []) g;
       left =
           e ∙ ap (λ l. Waits l at ∷ t2) stay_is ∙ ap (λ s. Waits stay s ∷ t2) v
           ∙ ap (λ t. Waits stay (span_of placing.goal) ∷ t)
-          (e2 ∙ ap (λ l. l ++ t1) members_are ∙ ap (λ l. members ++ l) (e1 ∙ ap (λ l. l ++ tasks) site_is));
+          (e2 ∙ ap (λ l. l ++ (site_tasks placing.goal (length listed) (length sites) (length before) ++ tasks)) members_are ∙ ap (λ l. members ++ (l ++ tasks)) site_is);
     }

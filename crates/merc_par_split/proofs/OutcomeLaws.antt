@@ -8,13 +8,14 @@ use Rattle.merc_base.specs.declared.place.Span.{Span}
 use Rattle.merc_graded_tree.specs.declared.entries.Running.TheVariants.{Sequential, Parallel}
 use Rattle.merc_graded_tree.specs.Nodes.{Node, node, Goal, Basic, Conjunction, Disjunction, Switch, Conditional, Negation, Quantified, Nodes, no_nodes, more_nodes, Arms, no_arms, more_arms, outputs_of}
 use Rattle.merc_graded_tree.specs.Variables.{in_node, in_nodes}
-use Rattle.merc_par_split.specs.declared.rights.Awaited.{Awaited}
-use Rattle.merc_par_split.specs.declared.sites.SiteInfo.{SiteInfo}
-use Rattle.merc_par_split.specs.Rights.{Right, right_to, those, used_in, unused_in, passed_by, bound_in, unbound_in, wait_at, between, around, ahead_of, signals_of}
+use Rattle.merc_rights.specs.declared.rights.Awaited.{Awaited}
+use Rattle.merc_rights.specs.declared.sites.SiteInfo.{SiteInfo}
+use Rattle.merc_rights.specs.Rights.{Right, right_to, those, used_in, unused_in, passed_by, bound_in, unbound_in, wait_at, between, around, ahead_of, signals_of}
 use Rattle.merc_par_split.specs.Forks.{forks, goal_forks, all_forks, arm_forks}
 use Rattle.merc_par_split.specs.Split.{may_fail, nothing, moves_in, placed, placed_goal, placed_in_turn, placed_conjuncts, placed_arms, placed_alone, split}
 use Rattle.merc_par_split.specs.Sites.{site_info, planned, planned_goal, planned_in_turn, planned_conjuncts, planned_arms, planned_alone, sites}
-use Rattle.merc_par_split.specs.Outcomes.{rights_of, those_waits, others, moves, stays, turned, is_passed, outcome, entered, in_turn, side_by_side, armed, alone}
+use Rattle.merc_par_split.specs.Outcomes.{turned, is_passed, outcome, entered, in_turn, side_by_side, armed, alone}
+use Rattle.merc_rights.specs.Waits.{rights_of, those_waits, others, moves, stays}
 
 -- There are as many sites as parallel conjunctions.
 both_counts : (one other : List SiteInfo) (count more : ℕ) → length one ≡ count → length other ≡ more → length (one ++ other) ≡ count + more

@@ -8,13 +8,14 @@ use Rattle.merc_graded_tree.specs.declared.entries.Label.{Label}
 use Rattle.merc_graded_tree.specs.Labels.{labels_of}
 use Rattle.merc_graded_tree.specs.Nodes.{Node, node, category_of, span_of}
 use Rattle.merc_graded_tree.specs.Roots.{arity_of, last_joined, labelled}
-use Rattle.merc_par_split.specs.Rights.{Right, wait_at, signal_at, around}
+use Rattle.merc_rights.specs.Rights.{Right, wait_at, signal_at, around}
 use Rattle.merc_par_split.specs.Split.{may_fail, split}
 use Rattle.merc_par_split.specs.Sites.{sites}
 use Rattle.merc_par_split.specs.Outcomes.{outcome, entered}
-use Rattle.merc_par_split.specs.Tasks.{Progress, with_goals, with_outcome, node_entered, after, after_all, HaveEnough, effort, total, Lies, LiesTask, AllLie, Performs, wraps, placed_tasks}
-use Rattle.merc_par_split.specs.declared.rights.Awaited.{Awaited}
-use Rattle.merc_par_split.specs.declared.sites.SiteInfo.{SiteInfo}
+use Rattle.merc_par_split.specs.Tasks.{Progress, with_goals, with_outcome, node_entered, after, after_all, HaveEnough, effort, total, LiesTask, AllLie, Performs, wraps, placed_tasks}
+use Rattle.merc_rights.specs.Places.{Lies}
+use Rattle.merc_rights.specs.declared.rights.Awaited.{Awaited}
+use Rattle.merc_rights.specs.declared.sites.SiteInfo.{SiteInfo}
 use Rattle.merc_par_split.specs.declared.tasks.Placing.{Placing}
 use Rattle.merc_par_split.specs.declared.tasks.Task.{Task}
 use Rattle.merc_par_split.specs.declared.tasks.Task.TheVariants.{Place, Enter, Waits, Signals, Close}
@@ -195,11 +196,13 @@ all_performed whole tasks goals goals' before now none h =
     let e = sym (ap (λ l. after_all l (at_with goals' now)) none) ∙ h ∙ ap (λ (p : Node × List SiteInfo). with_outcome (at_with goals before) p) (split_is (length before) whole) in
     (ap (λ (p : Progress). p.goals) e, ap (λ (p : Progress). p.sites) e)
 
+pub first_performed : (whole : Node) (tasks : List Task) (goals goals' : List Node) (before now : List SiteInfo)
+    → tasks ≡ Place (record { goal = whole; first = 0; waits = []; signals = [] }) ∷ [] → after_all tasks (at_with goals before) ≡ at_with goals' now
+    → (goals' ≡ goals ++ split (length before) whole ∷ []) × (now ≡ before ++ sites whole)
+first_performed whole tasks goals goals' before now is h =
+    all_performed whole [] goals goals' before now refl (sym h ∙ ap (λ l. after_all l (at_with goals before)) is)
+
 -- the first task
-pub the_first : (tasks none : List Task) (task : Task) (goal whole : Node) → tasks ≡ task ∷ none → none ≡ []
-    → task ≡ Place (record { goal = goal; first = 0; waits = []; signals = [] }) → goal ≡ whole → tasks ≡ Place (record { goal = whole; first = 0; waits = []; signals = [] }) ∷ []
-the_first tasks none task goal whole h empty is same =
-    h ∙ ap (λ l. task ∷ l) empty ∙ ap (λ t. t ∷ []) is ∙ ap (λ g. Place (record { goal = g; first = 0; waits = []; signals = [] }) ∷ []) same
 
 pub first_lies : (whole : Node) (tasks : List Task) → tasks ≡ Place (record { goal = whole; first = 0; waits = []; signals = [] }) ∷ [] → AllLie whole tasks
 first_lies whole tasks is =

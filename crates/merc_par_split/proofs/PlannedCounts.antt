@@ -4,9 +4,9 @@ use Rattle.std.specs.List.{flat_map}
 use Rattle.std.proofs.lemmas.List.{length-append, append_assoc}
 use Rattle.merc_graded_tree.specs.declared.entries.Running.TheVariants.{Sequential, Parallel}
 use Rattle.merc_graded_tree.specs.Nodes.{Node, node, Goal, Basic, Conjunction, Disjunction, Switch, Conditional, Negation, Quantified, Nodes, no_nodes, more_nodes, Arms, no_arms, more_arms, outputs_of}
-use Rattle.merc_par_split.specs.declared.sites.SiteInfo.{SiteInfo}
+use Rattle.merc_rights.specs.declared.sites.SiteInfo.{SiteInfo}
 use Rattle.merc_par_split.specs.Forks.{forks, goal_forks, all_forks, arm_forks}
-use Rattle.merc_par_split.specs.Rights.{Right, right_to, those, used_in, unused_in, bound_in, unbound_in, signals_of}
+use Rattle.merc_rights.specs.Rights.{Right, right_to, those, used_in, unused_in, bound_in, unbound_in, signals_of}
 use Rattle.merc_par_split.specs.Split.{may_fail, nothing, moves_in, split, all_split}
 use Rattle.merc_par_split.specs.Sites.{planned, planned_goal, planned_in_turn, planned_conjuncts, planned_arms, planned_alone, sites, all_sites}
 

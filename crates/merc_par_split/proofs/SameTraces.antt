@@ -17,7 +17,7 @@ use Rattle.merc_meaning.specs.Values.{fields}
 use Rattle.merc_meaning.specs.Trace.{Env, Trace, Ends, Tick, Answer, Done, Raised, TooDeep, one_answer, after, each, first_alone, choose, negated, cut}
 use Rattle.merc_meaning.specs.Steps.{value_at}
 use Rattle.merc_meaning.specs.Runs.{Program, ProcedureBody, answers_once, once_if, called, where_some, basic_trace, goal_trace, node_trace, all_trace, any_trace, arms_trace, body_trace, call_trace, run}
-use Rattle.merc_par_split.specs.Rights.{Right, right_to, those, used_in, unused_in, passed_by, bound_in, unbound_in, wait_at, signal_at, between, around, ahead_of, signals_of}
+use Rattle.merc_rights.specs.Rights.{Right, right_to, those, used_in, unused_in, passed_by, bound_in, unbound_in, wait_at, signal_at, between, around, ahead_of, signals_of}
 use Rattle.merc_par_split.specs.Forks.{forks}
 use Rattle.merc_par_split.specs.Split.{may_fail, nothing, moves_in, placed, placed_goal, placed_in_turn, placed_conjuncts, placed_arms, placed_alone, split}
 use Rattle.merc_par_split.specs.SplitLaws.{split_body, split_program}

@@ -7,14 +7,15 @@ use Rattle.std.proofs.lemmas.Bool.Decides.{nat_tests}
 use Rattle.merc_graded_tree.specs.Nodes.{Node, Nodes, no_nodes, more_nodes, Arms, no_arms, more_arms, list_of, outputs_of}
 use Rattle.merc_graded_tree.specs.Roots.{bodies_of}
 use Rattle.merc_graded_tree.specs.Variables.{among, in_node, in_nodes}
-use Rattle.merc_par_split.specs.Members.{uses_it, binds_it, spared, turn_wait_at, turn_wait, turn_signal_at, turn_signal, wait_shares, signal_shares, pass_shares}
-use Rattle.merc_par_split.specs.Outcomes.{rights_of, those_waits, others, turned, is_passed, outcome, in_turn, armed, alone}
-use Rattle.merc_par_split.specs.Rights.{Right, bound_in, unbound_in, ahead_of}
-use Rattle.merc_par_split.specs.Rows.{row_of, next_from, numbers_from}
+use Rattle.merc_rights.specs.Members.{uses_it, binds_it, spared, turn_wait_at, turn_wait, turn_signal_at, turn_signal, wait_shares, signal_shares, pass_shares}
+use Rattle.merc_par_split.specs.Outcomes.{turned, is_passed, outcome, in_turn, armed, alone}
+use Rattle.merc_rights.specs.Waits.{rights_of, those_waits, others}
+use Rattle.merc_rights.specs.Rights.{Right, bound_in, unbound_in, ahead_of}
+use Rattle.merc_rights.specs.Rows.{row_of, next_from, numbers_from}
 use Rattle.merc_par_split.specs.Tasks.{shares_of, shared}
-use Rattle.merc_par_split.specs.declared.rights.Awaited.{Awaited}
-use Rattle.merc_par_split.specs.declared.sites.SiteInfo.{SiteInfo}
-use Rattle.merc_par_split.proofs.Indexes.{row-append}
+use Rattle.merc_rights.specs.declared.rights.Awaited.{Awaited}
+use Rattle.merc_rights.specs.declared.sites.SiteInfo.{SiteInfo}
+use Rattle.merc_rights.proofs.Indexes.{row-append}
 
 same-more : (one other : ℕ) → (suc one == suc other) ≡ (one == other)
 same-more one other = by (one == other) refl

@@ -12,23 +12,26 @@ use Rattle.merc_graded_tree.specs.Roots.{labelled}
 use Rattle.merc_graded_tree.specs.RootLaws.{nodes_of-list_of}
 use Rattle.merc_graded_tree.specs.Variables.{in_node}
 use Rattle.merc_par_split.specs.Constructs.{LeavesConjuncts, site_tasks}
-use Rattle.merc_par_split.specs.Members.{wait_shares, waits_at, signals_at, move_of}
-use Rattle.merc_par_split.specs.Outcomes.{rights_of, fresh, moves, stays, outcome, side_by_side}
-use Rattle.merc_par_split.specs.Rights.{Right, right_to, used_in, signals_of, wait_at, between}
-use Rattle.merc_par_split.specs.Rows.{row_of, each_from}
+use Rattle.merc_rights.specs.Members.{wait_shares, waits_at, signals_at, move_of}
+use Rattle.merc_par_split.specs.Outcomes.{outcome, side_by_side}
+use Rattle.merc_rights.specs.Waits.{rights_of, fresh, moves, stays}
+use Rattle.merc_rights.specs.Rights.{Right, right_to, used_in, signals_of, wait_at, between}
+use Rattle.merc_rights.specs.Rows.{row_of, each_from}
 use Rattle.merc_par_split.specs.Sites.{site_info, count, cells_of, signal_moves, are_for}
 use Rattle.merc_par_split.specs.Tasks.{with_outcome, after_all, shares_of, shared, member_tasks, relabelled, framed}
-use Rattle.merc_par_split.specs.declared.rights.Awaited.{Awaited}
-use Rattle.merc_par_split.specs.declared.sites.SiteInfo.{SiteInfo}
+use Rattle.merc_rights.specs.declared.rights.Awaited.{Awaited}
+use Rattle.merc_rights.specs.declared.sites.SiteInfo.{SiteInfo}
 use Rattle.merc_par_split.specs.declared.tasks.Placing.{Placing}
 use Rattle.merc_par_split.specs.declared.tasks.Task.{Task}
 use Rattle.merc_par_split.specs.declared.tasks.Task.TheVariants.{Waits}
-use Rattle.merc_par_split.proofs.Indexes.{row-append}
+use Rattle.merc_rights.proofs.Indexes.{row-append}
 use Rattle.merc_par_split.proofs.ShareLaws.{outcome-same}
 use Rattle.merc_par_split.proofs.StepLaws.{at_with, after-append, members_done, framed_done}
 use Rattle.merc_par_split.proofs.ConstructLaws.{share-count, entered_as}
-use Rattle.merc_par_split.proofs.ConjunctLaws.{Stands, flat-append, found_waits, moved_waits, moved_fresh}
+use Rattle.merc_rights.proofs.FlatLaws.{flat-append}
+use Rattle.merc_par_split.proofs.ConjunctLaws.{Stands, found_waits, moved_waits, moved_fresh}
 use Rattle.merc_par_split.proofs.SiteLaws.{found_signals, found_cells, found_moves, moved_moves, count-nodes}
+use Rattle.merc_rights.specs.Groups.{numbered}
 
 used-append : (first : Node) (one other : List Right) → used_in first (one ++ other) ≡ used_in first one ++ used_in first other
 used-append first [] other = refl
@@ -94,7 +97,7 @@ site_frame placing goals sites inner =
 
 module _ (placing : Placing) (goals : List Node) (sites sites' : List SiteInfo) (tasks tasks' : List Task) (leaves : LeavesConjuncts placing goals sites sites' tasks tasks') where
   abbrev pub conjunct_tasks : List Task
-  conjunct_tasks = member_tasks placing.first (shares_of 0 goals leaves.with_moved.waits.items leaves.with_moved.signals.items [])
+  conjunct_tasks = member_tasks placing.first (shares_of 0 goals leaves.with_moved.waits.items (numbered leaves.with_moved.signals.items) [])
 
   pub tasks_are : tasks' ≡ site_frame placing goals sites conjunct_tasks ++ tasks
   tasks_are =
@@ -125,7 +128,7 @@ module _ (placing : Placing) (goals : List Node) (sites sites' : List SiteInfo) 
       let finds = leaves.finds in
       let adds = leaves.adds in
       let rows = leaves.with_moved.waits.items in
-      let signal_rows = leaves.with_moved.signals.items in
+      let signal_rows = numbered leaves.with_moved.signals.items in
       let info = site_info outputs inside placing.signals (nodes_of goals) in
       let now = sites ++ info ∷ [] in
       let root = ConjunctionRoot (Parallel (Some (record { number = length sites }))) (length goals) in
@@ -139,7 +142,7 @@ module _ (placing : Placing) (goals : List Node) (sites sites' : List SiteInfo) 
       let is = ap (λ n. shared n shares) more
       ∙ sides goals outputs finds.moved placing.signals placing.waits finds.by_variable rows signal_rows
       (adds.more_waits ∙ ap (λ l. l ++ flat_map (wait_shares goals) (filter (moves (nodes_of goals)) placing.waits)) finds.are_waits)
-      (adds.more_signals ∙ append-nil leaves.found.signals.items ∙ finds.are_signals) [] goals 0 (suc (length sites)) [] refl refl refl in
+      (adds.more_signals ∙ append-nil (numbered leaves.found.signals.items) ∙ finds.are_signals) [] goals 0 (suc (length sites)) [] refl refl refl in
       ap (λ t. after_all t (at_with before sites')) tasks_are
       ∙ after-append (site_frame placing goals sites conjunct_tasks) tasks (at_with before sites')
       ∙ ap (λ p. after_all tasks p)

@@ -5,14 +5,15 @@ use Rattle.std.proofs.Common.{◌∙◌, ap, sym, arith}
 use Rattle.std.proofs.lemmas.Bool.Decides.{nat_tests}
 use Rattle.std.proofs.lemmas.List.{append_assoc, append-nil, map-append, length-append}
 use Rattle.merc_graded_tree.specs.Nodes.{Node, nodes_of, outputs_of}
-use Rattle.merc_par_split.specs.Members.{uses_it, wait_shares, consumers_behind, cells_at, signals_at, moves_if, moves_at, move_of}
-use Rattle.merc_par_split.specs.Outcomes.{rights_of}
-use Rattle.merc_par_split.specs.Rights.{Right, right_to, those, with_rights, users, signals_of}
-use Rattle.merc_par_split.specs.Rows.{row_of, numbers_from, each_from}
+use Rattle.merc_rights.specs.Members.{uses_it, wait_shares, consumers_behind, cells_at, signals_at, moves_if, moves_at, move_of}
+use Rattle.merc_rights.specs.Waits.{rights_of}
+use Rattle.merc_rights.specs.Rights.{Right, right_to, those, with_rights, users, signals_of}
+use Rattle.merc_rights.specs.Rows.{row_of, numbers_from, each_from}
 use Rattle.merc_par_split.specs.Sites.{count, consumers, cells_of, are_for, signal_moves, wait_moves}
-use Rattle.merc_par_split.specs.declared.rights.Awaited.{Awaited}
+use Rattle.merc_rights.specs.declared.rights.Awaited.{Awaited}
 use Rattle.merc_par_split.proofs.ShareLaws.{flat-map-those}
-use Rattle.merc_par_split.proofs.ConjunctLaws.{Stands, row-flat, row-each, flat-same, flat-none, each-append, each-behind, users-from, consumers_same}
+use Rattle.merc_rights.proofs.FlatLaws.{row-flat, flat-same, flat-none}
+use Rattle.merc_par_split.proofs.ConjunctLaws.{Stands, row-each, each-append, each-behind, users-from, consumers_same}
 
 -- rights by their variables
 rights_for : (variable : ℕ) (signals : List Right) → row_of variable (map (λ right. (right.variable, right)) signals) ≡ those (λ other. other == variable) signals

@@ -12,13 +12,14 @@ use Rattle.merc_graded_tree.specs.Nodes.{Node, node, Goal, Basic, Conjunction, D
 use Rattle.merc_graded_tree.specs.Labels.{labels_of}
 use Rattle.merc_graded_tree.specs.Roots.{arity_of, last_joined, labelled}
 use Rattle.merc_graded_tree.specs.RootLaws.{last_joined_is}
-use Rattle.merc_par_split.specs.Rights.{Right, right_to, wait_at, signal_at, between, around, ahead_of, bound_in, in_place_of}
+use Rattle.merc_rights.specs.Rights.{Right, right_to, wait_at, signal_at, between, around, ahead_of, bound_in, in_place_of}
 use Rattle.merc_graded_tree.specs.Variables.{in_node}
 use Rattle.merc_par_split.specs.Split.{may_fail}
-use Rattle.merc_par_split.specs.Outcomes.{rights_of, those_waits, others, moves, stays, is_passed, outcome, entered, side_by_side, armed, alone}
+use Rattle.merc_par_split.specs.Outcomes.{is_passed, outcome, entered, side_by_side, armed, alone}
+use Rattle.merc_rights.specs.Waits.{rights_of, those_waits, others, moves, stays}
 use Rattle.merc_par_split.specs.Tasks.{Progress, with_goals, after, after_all, Share, shared, relabelled, wraps, passing, member_tasks, framed}
-use Rattle.merc_par_split.specs.declared.rights.Awaited.{Awaited}
-use Rattle.merc_par_split.specs.declared.sites.SiteInfo.{SiteInfo}
+use Rattle.merc_rights.specs.declared.rights.Awaited.{Awaited}
+use Rattle.merc_rights.specs.declared.sites.SiteInfo.{SiteInfo}
 use Rattle.merc_par_split.specs.declared.tasks.Task.{Task}
 use Rattle.merc_par_split.specs.declared.tasks.Task.TheVariants.{Close}
 

@@ -9,16 +9,17 @@ use Rattle.merc_graded_tree.specs.declared.entries.Running.TheVariants.{Sequenti
 use Rattle.merc_graded_tree.specs.Nodes.{Node, outputs_of, span_of, nodes_of}
 use Rattle.merc_graded_tree.specs.Labels.{labels_of}
 use Rattle.merc_graded_tree.specs.Variables.{in_node}
-use Rattle.merc_par_split.specs.Rights.{Right, right_to}
-use Rattle.merc_par_split.specs.Members.{turn_wait, turn_signal, wait_shares, signal_shares, pass_shares, move_of, Finds, Adds}
-use Rattle.merc_par_split.specs.Outcomes.{rights_of, those_waits, others, moves, stays}
+use Rattle.merc_rights.specs.Rights.{Right, right_to}
+use Rattle.merc_rights.specs.Members.{turn_wait, turn_signal, wait_shares, signal_shares, pass_shares, move_of, Finds, Adds}
+use Rattle.merc_rights.specs.Waits.{rights_of, those_waits, others, moves, stays}
 use Rattle.merc_par_split.specs.Tasks.{closed, framed, member_tasks, relabelled, shares_of}
-use Rattle.merc_par_split.specs.declared.conjuncts.Found.{Found}
-use Rattle.merc_par_split.specs.declared.rights.Awaited.{Awaited}
-use Rattle.merc_par_split.specs.declared.sites.SiteInfo.{SiteInfo}
+use Rattle.merc_rights.specs.declared.conjuncts.Found.{Found}
+use Rattle.merc_rights.specs.declared.rights.Awaited.{Awaited}
+use Rattle.merc_rights.specs.declared.sites.SiteInfo.{SiteInfo}
 use Rattle.merc_par_split.specs.declared.tasks.Placing.{Placing}
 use Rattle.merc_par_split.specs.declared.tasks.Task.{Task}
 use Rattle.merc_par_split.specs.declared.tasks.Task.TheVariants.{Place, Waits, Signals, Close}
+use Rattle.merc_rights.specs.Groups.{numbered}
 
 abbrev pub whole_tasks : Placing → Root → List Node → List Task
 whole_tasks placing root goals =
@@ -52,15 +53,21 @@ abbrev pub site_tasks : Node → ℕ → ℕ → ℕ → List Task
 site_tasks whole children number before =
     closed whole (Conjunction (Parallel (Some (record { number = number }))) children) before (Waits (map (right_to 0) (outputs_of whole)) (span_of whole)) (length (outputs_of whole))
 
+-- what is found at an `&` into which these waits move
+pub record FindsMoved (goals : List Node) (placing : Placing) (inside : List Awaited) (found : Found) : Type 0 where
+  pub own : Found
+  pub finds : Finds goals (outputs_of placing.goal) placing.signals own
+  pub adds : Adds [] own found [] (map move_of (flat_map (wait_shares goals) inside)) (flat_map (wait_shares goals) inside) []
+
 -- What is found at an `&` and what moves in is told at the site, and goes to the conjuncts.
 pub record LeavesConjuncts (placing : Placing) (goals : List Node) (sites sites' : List SiteInfo) (tasks tasks' : List Task) : Type 0 where
   pub found : Found
   pub with_moved : Found
   pub finds : Finds goals (outputs_of placing.goal) placing.signals found
-  pub adds : Adds found with_moved [] (map move_of (flat_map (wait_shares goals) (filter (moves (nodes_of goals)) placing.waits))) (flat_map (wait_shares goals) (filter (moves (nodes_of goals)) placing.waits)) []
+  pub adds : Adds [] found with_moved [] (map move_of (flat_map (wait_shares goals) (filter (moves (nodes_of goals)) placing.waits))) (flat_map (wait_shares goals) (filter (moves (nodes_of goals)) placing.waits)) []
   pub told : sites' ≡ sites ++ record { children = length goals; cells = with_moved.cells.items; moves = with_moved.moves.items } ∷ []
   pub left : tasks' ≡ Waits (rights_of (filter (stays (nodes_of goals)) placing.waits)) (span_of placing.goal)
-      ∷ (member_tasks placing.first (shares_of 0 goals with_moved.waits.items with_moved.signals.items [])
+      ∷ (member_tasks placing.first (shares_of 0 goals with_moved.waits.items (numbered with_moved.signals.items) [])
       ++ (site_tasks placing.goal (length goals) (length sites) (length (rights_of (filter (stays (nodes_of goals)) placing.waits))) ++ tasks))
 
 -- .. in this way

@@ -1,36 +1,17 @@
 -- What comes of a goal: its split tree and its sites, where each right to wait tells whether its variable is used behind the goal.
-use Rattle.std.specs.Prelude.{ℕ, suc, ◌+◌, Bool, false, ◌==◌, ◌&&◌, ◌||◌, not, List, [], ◌∷◌, ◌++◌, length, map, Option, Some, if◌then◌else◌}
+use Rattle.std.specs.Prelude.{ℕ, suc, ◌+◌, Bool, ◌==◌, ◌&&◌, ◌||◌, not, List, [], ◌∷◌, ◌++◌, length, map, Option, Some, if◌then◌else◌}
 use Rattle.std.specs.List.{filter, flat_map}
 use Rattle.merc_base.specs.declared.category.Category.{Category}
 use Rattle.merc_base.specs.declared.place.Span.{Span}
 use Rattle.merc_graded_tree.specs.declared.entries.Running.TheVariants.{Sequential, Parallel}
 use Rattle.merc_graded_tree.specs.Nodes.{Node, node, Goal, Basic, Conjunction, Disjunction, Switch, Conditional, Negation, Quantified, Nodes, no_nodes, more_nodes, Arms, no_arms, more_arms, outputs_of}
 use Rattle.merc_graded_tree.specs.Variables.{in_node, in_nodes}
-use Rattle.merc_par_split.specs.declared.rights.Awaited.{Awaited}
-use Rattle.merc_par_split.specs.declared.sites.SiteInfo.{SiteInfo}
-use Rattle.merc_par_split.specs.Rights.{Right, right_to, used_in, bound_in, unbound_in, wait_at, between, around, ahead_of, users, signals_of}
+use Rattle.merc_rights.specs.declared.rights.Awaited.{Awaited}
+use Rattle.merc_rights.specs.declared.sites.SiteInfo.{SiteInfo}
+use Rattle.merc_rights.specs.Rights.{Right, right_to, used_in, bound_in, unbound_in, wait_at, between, around, ahead_of, signals_of}
+use Rattle.merc_rights.specs.Waits.{rights_of, fresh, those_waits, others, moves, stays}
 use Rattle.merc_par_split.specs.Split.{may_fail}
 use Rattle.merc_par_split.specs.Sites.{site_info}
-
-abbrev pub rights_of : List Awaited → List Right
-rights_of waits = map (λ wait. wait.right) waits
-
--- a right whose variable is not used behind
-abbrev pub fresh : Right → Awaited
-fresh right = record { right = right; later = false }
-
-abbrev pub those_waits : (ℕ → Bool) → List Awaited → List Awaited
-those_waits such waits = filter (λ wait. such wait.right.variable) waits
-
-abbrev pub others : (ℕ → Bool) → ℕ → Bool
-others such variable = not (such variable)
-
--- the right moves into the one conjunct that uses the variable
-abbrev pub moves : Nodes → Awaited → Bool
-moves goals wait = not wait.later && (length (users 1 goals wait.right.variable) == 1)
-
-abbrev pub stays : Nodes → Awaited → Bool
-stays goals wait = not (moves goals wait)
 
 -- what goes to the first of goals that come one after the other
 abbrev pub turned : Nodes → Awaited → Awaited

@@ -1,13 +1,14 @@
 -- Worked examples of what comes of goals.
-use Rattle.std.specs.Prelude.{◌≡◌, ◌==◌, ℕ, true, List, [], ◌∷◌, Some, None, refl}
+use Rattle.std.specs.Prelude.{◌≡◌, ℕ, true, List, [], ◌∷◌, Some, None, refl}
 use Rattle.merc_base.specs.declared.category.Category.TheVariants.{Det}
 use Rattle.merc_base.specs.declared.place.Span.{Span}
 use Rattle.merc_graded_tree.specs.declared.basic.BasicGoal.TheVariants.{Test, Assign, Wait, Signal}
 use Rattle.merc_graded_tree.specs.declared.entries.Running.TheVariants.{Sequential, Parallel}
 use Rattle.merc_graded_tree.specs.Nodes.{Node, node, Basic, Conjunction, nodes_of}
-use Rattle.merc_par_split.specs.declared.rights.Awaited.{Awaited}
-use Rattle.merc_par_split.specs.Outcomes.{rights_of, fresh, those_waits, others, moves, stays, turned, is_passed, outcome}
-use Rattle.merc_par_split.specs.Rights.{Right, right_to, in_place_of}
+use Rattle.merc_rights.specs.declared.rights.Awaited.{Awaited}
+use Rattle.merc_par_split.specs.Outcomes.{turned, is_passed, outcome}
+use Rattle.merc_rights.specs.Waits.{fresh}
+use Rattle.merc_rights.specs.Rights.{Right, right_to, in_place_of}
 
 abbrev nowhere : Span
 nowhere = record { first = 0; past = 0; line = 1 }
@@ -28,26 +29,6 @@ signal variable conjunct = node (Basic (Signal variable conjunct)) [] (Some Det)
 -- a right whose variable is used behind
 abbrev lasting : Right → Awaited
 lasting right = record { right = right; later = true }
-
-rights_of-example : rights_of (fresh (right_to 4 1) ∷ lasting (right_to 5 2) ∷ []) ≡ right_to 4 1 ∷ right_to 5 2 ∷ []
-rights_of-example = refl
-
-those_waits-example : those_waits (λ variable. variable == 2) (fresh (right_to 4 1) ∷ lasting (right_to 5 2) ∷ []) ≡ lasting (right_to 5 2) ∷ []
-those_waits-example = refl
-
-those_waits-not : those_waits (others (λ variable. variable == 1)) (fresh (right_to 4 1) ∷ []) ≡ fresh (right_to 4 1) ∷ [] → ⊥
-those_waits-not the_one = cc
-
--- into the one conjunct that uses the variable, where nothing uses it behind
-
-moves-example : moves (nodes_of (tests ∷ copies ∷ [])) (fresh (right_to 4 1)) ≡ true
-moves-example = refl
-
-moves-not_for_two : moves (nodes_of (tests ∷ copies ∷ [])) (fresh (right_to 4 2)) ≡ true → ⊥
-moves-not_for_two both = cc
-
-stays-example : stays (nodes_of (tests ∷ copies ∷ [])) (lasting (right_to 4 1)) ≡ true
-stays-example = refl
 
 -- a goal behind uses the variable
 

@@ -4,10 +4,10 @@ use Rattle.std.specs.List.{filter, flat_map, list_any}
 use Rattle.merc_graded_tree.specs.declared.entries.Running.TheVariants.{Sequential, Parallel}
 use Rattle.merc_graded_tree.specs.Nodes.{Node, node, Goal, Basic, Conjunction, Disjunction, Switch, Conditional, Negation, Quantified, Nodes, no_nodes, more_nodes, Arms, no_arms, more_arms, outputs_of}
 use Rattle.merc_graded_tree.specs.Variables.{among, in_nodes}
-use Rattle.merc_par_split.specs.declared.sites.CellInfo.{CellInfo}
-use Rattle.merc_par_split.specs.declared.sites.Moved.{Moved}
-use Rattle.merc_par_split.specs.declared.sites.SiteInfo.{SiteInfo}
-use Rattle.merc_par_split.specs.Rights.{Right, right_to, those, used_in, unused_in, bound_in, unbound_in, users, signals_of}
+use Rattle.merc_rights.specs.declared.sites.CellInfo.{CellInfo}
+use Rattle.merc_rights.specs.declared.sites.Moved.{Moved}
+use Rattle.merc_rights.specs.declared.sites.SiteInfo.{SiteInfo}
+use Rattle.merc_rights.specs.Rights.{Right, right_to, those, used_in, unused_in, bound_in, unbound_in, users, signals_of}
 use Rattle.merc_par_split.specs.Split.{may_fail, nothing, moves_in}
 
 -- how many conjuncts there are

@@ -7,10 +7,10 @@ use Rattle.merc_goal_tree.specs.declared.goal.Symbol.TheVariants.{Integer}
 use Rattle.merc_graded_tree.specs.declared.basic.BasicGoal.TheVariants.{Build, Call}
 use Rattle.merc_graded_tree.specs.declared.entries.Running.TheVariants.{Sequential, Parallel}
 use Rattle.merc_graded_tree.specs.Nodes.{Node, node, Goal, Basic, Conjunction, nodes_of}
-use Rattle.merc_par_split.specs.declared.sites.CellInfo.{CellInfo}
-use Rattle.merc_par_split.specs.declared.sites.Moved.{Moved}
-use Rattle.merc_par_split.specs.declared.sites.SiteInfo.{SiteInfo}
-use Rattle.merc_par_split.specs.Rights.{right_to}
+use Rattle.merc_rights.specs.declared.sites.CellInfo.{CellInfo}
+use Rattle.merc_rights.specs.declared.sites.Moved.{Moved}
+use Rattle.merc_rights.specs.declared.sites.SiteInfo.{SiteInfo}
+use Rattle.merc_rights.specs.Rights.{right_to}
 use Rattle.merc_par_split.specs.Sites.{count, consumers, are_for, sites, all_sites}
 
 abbrev nowhere : Span

@@ -7,12 +7,13 @@ use Rattle.merc_graded_tree.specs.declared.entries.Running.TheVariants.{Sequenti
 use Rattle.merc_graded_tree.specs.Nodes.{Node, goal_of, outputs_of, category_of, span_of}
 use Rattle.merc_graded_tree.specs.Roots.{last_joined, arity_of}
 use Rattle.merc_graded_tree.specs.Labels.{labels_of, inner_labels}
-use Rattle.merc_par_split.specs.Rights.{Right, wait_at, signal_at, ahead_of}
+use Rattle.merc_rights.specs.Rights.{Right, wait_at, signal_at, ahead_of}
 use Rattle.merc_par_split.specs.Split.{may_fail}
-use Rattle.merc_par_split.specs.Rows.{row_of}
+use Rattle.merc_rights.specs.Rows.{row_of}
 use Rattle.merc_par_split.specs.Outcomes.{outcome, entered}
-use Rattle.merc_par_split.specs.declared.rights.Awaited.{Awaited}
-use Rattle.merc_par_split.specs.declared.sites.SiteInfo.{SiteInfo}
+use Rattle.merc_rights.specs.declared.rights.Awaited.{Awaited}
+use Rattle.merc_rights.specs.declared.sites.SiteInfo.{SiteInfo}
+use Rattle.merc_rights.specs.Places.{Lies}
 use Rattle.merc_par_split.specs.declared.tasks.Placing.{Placing}
 use Rattle.merc_par_split.specs.declared.tasks.Task.{Task}
 use Rattle.merc_par_split.specs.declared.tasks.Task.TheVariants.{Place, Enter, Waits, Signals, Close}
@@ -64,13 +65,6 @@ abbrev pub total : List Task → ℕ
 total [] = 0
 total (first ∷ rest) = effort first + total rest
 
--- Labels stand among others from an index on.
-pub record Lies (all : List Label) (first : ℕ) (labels : List Label) : Type 0 where
-  pub front : List Label
-  pub back : List Label
-  pub are : all ≡ front ++ (labels ++ back)
-  pub count : length front ≡ first
-
 -- The parts of a task's goal stand where it says.
 abbrev pub LiesTask : Node → Task → Type 0
 LiesTask whole (Place placing) = Lies (labels_of whole) placing.first (labels_of placing.goal)
@@ -82,11 +76,6 @@ LiesTask whole (Close label) = Unit {0}
 abbrev pub AllLie : Node → List Task → Type 0
 AllLie whole [] = Unit {0}
 AllLie whole (first ∷ rest) = LiesTask whole first × AllLie whole rest
-
--- where the parts of goals begin that stand one behind the other, and where they end
-abbrev pub starts_of : ℕ → List Node → List ℕ
-starts_of start [] = start ∷ []
-starts_of start (first ∷ rest) = start ∷ starts_of (start + length (labels_of first)) rest
 
 -- a goal that is joined, with the rights that go to it, and what is waited for behind it
 pub record Share : Type 0 where

@@ -1,22 +1,28 @@
 -- Worked examples of tasks, and of what is left to do for goals that join others.
-use Rattle.std.specs.Prelude.{◌≡◌, ◌≤◌, ◌<◌, ℕ, List, [], ◌∷◌, ◌++◌, length, Some, None, refl}
-use Rattle.std.proofs.Common.{arith}
+use Rattle.std.specs.Prelude.{◌≡◌, ◌≤◌, ◌<◌, ℕ, false, List, [], ◌∷◌, ◌++◌, length, Some, None, refl}
+use Rattle.std.proofs.Common.{◌∙◌, sym, arith}
+use Rattle.std.proofs.lemmas.List.{append-nil}
 use Rattle.merc_base.specs.declared.category.Category.TheVariants.{Det}
 use Rattle.merc_base.specs.declared.place.Span.{Span}
-use Rattle.merc_graded_tree.specs.declared.basic.BasicGoal.TheVariants.{Test, Assign, Wait, Signal}
+use Rattle.merc_graded_tree.specs.declared.basic.BasicGoal.TheVariants.{Test, Assign, Wait}
 use Rattle.merc_graded_tree.specs.declared.entries.Label.{Label}
 use Rattle.merc_graded_tree.specs.declared.entries.Root.TheVariants.{Conjunction as ConjunctionRoot}
 use Rattle.merc_graded_tree.specs.declared.entries.Running.TheVariants.{Sequential, Parallel}
 use Rattle.merc_graded_tree.specs.Labels.{labels_of}
 use Rattle.merc_graded_tree.specs.Nodes.{Node, node, Basic, Conjunction, nodes_of}
-use Rattle.merc_par_split.specs.declared.sites.SiteInfo.{SiteInfo}
+use Rattle.merc_rights.specs.declared.conjuncts.Found.{Found}
+use Rattle.merc_rights.specs.declared.sites.Moved.{Moved}
+use Rattle.merc_rights.specs.declared.sites.SiteInfo.{SiteInfo}
 use Rattle.merc_par_split.specs.declared.tasks.Placing.{Placing}
 use Rattle.merc_par_split.specs.declared.tasks.Task.{Task}
 use Rattle.merc_par_split.specs.declared.tasks.Task.TheVariants.{Place, Enter, Waits, Signals, Close}
-use Rattle.merc_par_split.specs.Constructs.{turn_tasks, site_tasks, LeavesRunning}
-use Rattle.merc_par_split.specs.Outcomes.{fresh}
-use Rattle.merc_par_split.specs.Rights.{Right, right_to}
-use Rattle.merc_par_split.specs.Tasks.{Progress, after, after_all, HaveEnough, effort, total, Lies, AllLie, Performs, starts_of, shares_of, relabelled, wraps, passing, placed_tasks}
+use Rattle.merc_par_split.specs.Constructs.{turn_tasks, site_tasks, FindsMoved, LeavesRunning}
+use Rattle.merc_rights.specs.Groups.{numbered_with}
+use Rattle.merc_rights.specs.Members.{Finds}
+use Rattle.merc_rights.specs.Waits.{fresh}
+use Rattle.merc_rights.specs.Rights.{Right, right_to}
+use Rattle.merc_par_split.specs.Tasks.{Progress, after, after_all, HaveEnough, effort, total, AllLie, Performs, shares_of, relabelled, wraps, passing, placed_tasks}
+use Rattle.merc_rights.specs.Places.{Lies}
 
 abbrev nowhere : Span
 nowhere = record { first = 0; past = 0; line = 1 }
@@ -70,21 +76,6 @@ effort-example = refl
 total-example : total (Place (placing copies 0 []) ∷ one_wait ∷ []) ≡ 13
 total-example = refl
 
--- labels among others
-
-Lies-example : Lies (label 2 ∷ label 3 ∷ label 4 ∷ []) 1 (label 3 ∷ [])
-Lies-example = record { front = label 2 ∷ []; back = label 4 ∷ []; are = refl; count = refl }
-
-none_are : (front back : List Label) → [] ≡ front ++ (label 2 ∷ back) → ⊥
-none_are [] back are = cc
-none_are (first ∷ rest) back are = cc
-
-Lies-not : Lies [] 0 (label 2 ∷ []) → ⊥
-Lies-not lies = none_are lies.front lies.back lies.are
-
-starts_of-example : starts_of 3 (copies ∷ in_turn (tests ∷ copies ∷ []) ∷ []) ≡ 3 ∷ 4 ∷ 7 ∷ []
-starts_of-example = refl
-
 -- each goal with the rights of its number
 
 shares_of-example : shares_of 0 (tests ∷ copies ∷ []) ((0, fresh (right_to 4 2)) ∷ []) ((1, right_to 5 1) ∷ []) ((1, right_to 6 3) ∷ [])
@@ -127,6 +118,27 @@ site_tasks-example : site_tasks copies 2 3 0
     ≡ Close (record { root = ConjunctionRoot (Parallel (Some (record { number = 3 }))) 2; outputs = 1 ∷ []; category = Some Det; span = nowhere })
     ∷ Waits (right_to 0 1 ∷ []) nowhere ∷ Close (label 2) ∷ []
 site_tasks-example = refl
+
+-- what is found where nothing moves in, and a wait that moves in is told
+
+FindsMoved-example : (found : Found) → Finds [] [] [] found → FindsMoved [] (placing tests 0 []) [] found
+FindsMoved-example found finds = record {
+  own = found;
+  finds = finds;
+  adds = record {
+    more_cells = sym (append-nil found.cells.items);
+    more_moves = sym (append-nil found.moves.items);
+    more_waits = sym (append-nil found.waits.items);
+    more_signals = sym (append-nil (numbered_with [] found.signals.items));
+  };
+}
+
+none_but_one : (front : List Moved) (last : Moved) → [] ≡ front ++ last ∷ [] → ⊥
+none_but_one [] last are = cc
+none_but_one (first ∷ rest) last are = cc
+
+FindsMoved-not : (found : Found) → found.moves.items ≡ [] → FindsMoved (copies ∷ []) (placing copies 0 []) (fresh (right_to 4 2) ∷ []) found → ⊥
+FindsMoved-not found none finds = none_but_one finds.own.moves.items (record { variable = 2; child = 1; signal = false }) (sym none ∙ finds.adds.more_moves)
 
 -- Goals one after the other have no site of their own.
 

@@ -1,176 +1,27 @@
-//! The goals that a goal joins, and which of them use a variable.
-ghost use Rattle.std.specs.Prelude.{◌≡◌, ◌-◌, ◌++◌, nat_le, [], map, slice_index_or, Some, None, IfOk, OnOk, if◌then◌else◌};
-ghost use Rattle.std.specs.List.Sorted.{IsNonDecreasing};
-ghost use Rattle.merc_graded_tree.specs.Nodes.{outputs_of};
-ghost use Rattle.merc_graded_tree.specs.Variables.{among, in_node};
-ghost use Rattle.merc_par_split.specs.Members.{count_of, IsLaid};
-ghost use Rattle.merc_par_split.specs.Rows.{next_from, numbers_from, Tells};
-ghost use Rattle.merc_par_split.specs.Tasks.{member_tasks, shares_of, starts_of};
+//! Leaving the goals that a goal joins.
+ghost use Rattle.std.specs.Prelude.{◌≡◌, ◌<◌, ◌∷◌, ◌++◌, ℕ, IfOk, OnOk};
+ghost use Rattle.std.specs.List.Sorted.{IsNonDecreasingBy};
+ghost use Rattle.merc_par_split.specs.Tasks.{member_tasks, passing, shares_of};
+ghost use Rattle.merc_par_split.specs.declared.tasks.Task.{Task};
+ghost use Rattle.merc_rights.specs.Groups.{numbered};
+ghost use Rattle.merc_rights.specs.Places.{starts_of};
+ghost use Rattle.merc_rights.specs.Rows.{row_of};
 
-use crate::occurrences::{Index, Occurrences, put_all};
-use crate::rights::{Awaited, Right};
-use crate::rows::Rows;
-use crate::tasks::{Placing, Task, Tasks, leave_passing, sum};
+use crate::tasks::{Placing, Task, Tasks, leave_passing};
 use merc_base::NoMemory;
-use merc_goal_tree::Var;
-use merc_graded_tree::{NodeRef, Parts};
+use merc_graded_tree::NodeRef;
+use merc_rights::{Awaited, Members, NumberedGroup, Right, Rows, by_number, start_of, take_row};
 use std::alloc::Global;
 
-/// Goals that are joined, with the index of the first part of each among those of the whole goal.
+/// What goes to each of the goals that a goal joins, by their numbers.
 #[derive(Drop)]
-pub(crate) struct Members<'a> {
-    /// From the first to the last.
-    pub(crate) goals: Vec<NodeRef<'a>>,
-    /// The index of the first part of the first.
-    pub(crate) first: usize,
-    /// One more than there are goals: the last one is the index behind them.
-    pub(crate) starts: Vec<usize>,
-}
-
-impl<'a> Members<'a> {
-    /// These, where the parts of the first stand from an index on.
-    ///
-    /// # Errors
-    ///
-    /// `NoMemory` where memory was refused.
-    pub(crate) fn of(
-        alloc: Global,
-        goals: Vec<NodeRef<'a>>,
-        first: usize,
-    ) -> Result<Members<'a>, NoMemory>
-        ensures goals { IfOk result (λ members. members.goals.items ≡ goals.entry.items) }
-        ensures first { IfOk result (λ members. members.first ≡ first) }
-        ensures starts { IfOk result (λ members. members.starts.items ≡ starts_of first goals.entry.items) }
-    {
-        let starts = starts(alloc, &goals, first)?;
-        Ok(Members {
-            goals,
-            first,
-            starts,
-        })
-    }
-
-    /// The first goal from this one on that uses the variable.
-    pub(crate) fn next_user(
-        &self,
-        occurrences: &Occurrences<'_>,
-        variable: Var,
-        from: usize,
-    ) -> Option<usize>
-        requires { IsLaid occurrences.now self.now }
-        ensures { result ≡ next_from (λ goal. in_node goal variable) from 0 self.now.goals.items }
-    {
-        let goals = self.goals.as_slice();
-        let starts = self.starts.as_slice();
-        if from >= goals.len() {
-            return None;
-        }
-        match occurrences.first_from(variable, start_of(starts, from)) {
-            Some(place) => member_of(starts, place, start_of(starts, goals.len())),
-            None => None,
-        }
-    }
-
-    /// The goals from this one on that use the variable. It takes time of the order of their number times the logarithm of
-    /// the whole's size.
-    ///
-    /// # Errors
-    ///
-    /// `NoMemory` where memory was refused.
-    pub(crate) fn users(
-        &self,
-        alloc: Global,
-        occurrences: &Occurrences<'_>,
-        variable: Var,
-        from: usize,
-    ) -> Result<Vec<usize>, NoMemory>
-        requires { IsLaid occurrences.now self.now }
-        ensures { IfOk result (λ users. users.items ≡ numbers_from (λ goal. in_node goal variable) from 0 self.now.goals.items) }
-    {
-        let mut users = Vec::new(alloc);
-        let mut next = from;
-        while let Some(user) = self.next_user(occurrences, variable, next) {
-            users.push(user)?;
-            next = sum(user, 1)?;
-        }
-        Ok(users)
-    }
-}
-
-// The start of this number.
-fn start_of(starts: &[usize], number: usize) -> usize
-    ensures { result ≡ slice_index_or starts.now number 0 }
-{
-    if number < starts.len() {
-        starts[number]
-    } else {
-        0
-    }
-}
-
-// The number of the goal that has the part at a place, None where the place is past the end.
-fn member_of(starts: &[usize], place: usize, end: usize) -> Option<usize>
-    requires { IsNonDecreasing starts.now }
-    ensures { result ≡ (if nat_le end place then None else Some (count_of place starts.now - 1)) }
-{
-    if end <= place {
-        return None;
-    }
-    Some(count_up_to(starts, place).saturating_sub(1))
-}
-
-// How many of these places, which rise, stand before another or are it.
-fn count_up_to(places: &[usize], place: usize) -> usize
-    requires { IsNonDecreasing places.now }
-    ensures { result ≡ count_of place places.now }
-{
-    places.partition_point(|other| *other <= place)
-}
-
-// Where the parts of goals start, and where they end.
-fn starts(alloc: Global, goals: &[NodeRef<'_>], first: usize) -> Result<Vec<usize>, NoMemory>
-    ensures { IfOk result (λ starts. starts.items ≡ starts_of first goals.now) }
-{
-    let mut starts = Vec::new(alloc);
-    let mut start = first;
-    for goal in goals {
-        starts.push(start)?;
-        start = sum(start, goal.part_count())?;
-    }
-    starts.push(start)?;
-    Ok(starts)
-}
-
-/// A list of goals.
-///
-/// # Errors
-///
-/// `NoMemory` where memory was refused.
-pub(crate) fn listed<'a>(alloc: Global, parts: Parts<'a>) -> Result<Vec<NodeRef<'a>>, NoMemory>
-    ensures { IfOk result (λ goals. goals.items ≡ parts.entry) }
-{
-    let mut goals = Vec::new(alloc);
-    let mut left = parts;
-    while let Some(last) = left.take_last() {
-        goals.push(last)?;
-    }
-    goals.reverse();
-    Ok(goals)
-}
-
-/// The numbers of goals by the variables that they bind.
-///
-/// # Errors
-///
-/// `NoMemory` where memory was refused.
-pub(crate) fn binders(alloc: Global, goals: &[NodeRef<'_>]) -> Result<Index, NoMemory>
-    ensures { IfOk result (λ index. Tells index (map outputs_of goals.now)) }
-{
-    let mut pairs = Vec::new(alloc);
-    for (number, goal) in goals.iter().enumerate() {
-        put_all(goal.outputs().as_slice(), number, &mut pairs)?;
-    }
-    Index::of(pairs)
+pub(crate) struct Shares {
+    /// Rights to wait.
+    pub(crate) waits: Rows<Awaited>,
+    /// Rights to signal.
+    pub(crate) signals: Vec<NumberedGroup>,
+    /// What is waited for behind them.
+    pub(crate) passed: Rows<Right>,
 }
 
 /// Leaves goals, each with the rights of its number and what is waited for behind it.
@@ -181,25 +32,72 @@ pub(crate) fn binders(alloc: Global, goals: &[NodeRef<'_>]) -> Result<Index, NoM
 pub(crate) fn leave_members<'a>(
     alloc: Global,
     members: Members<'a>,
-    waits: &Rows<Awaited>,
-    signals: &Rows<Right>,
-    passed: &Rows<Right>,
+    shares: Shares,
     tasks: &mut Tasks<'a>,
 ) -> Result<(), NoMemory>
     requires { members.starts.items ≡ starts_of members.first members.goals.items }
-    ensures { OnOk result (tasks.new ≡ member_tasks members.entry.first (shares_of 0 members.entry.goals.items waits.now signals.now passed.now) ++ tasks.old) }
+    ensures { OnOk result (tasks.new ≡ member_tasks members.entry.first (shares_of 0 members.entry.goals.items shares.waits (numbered shares.signals.items) shares.passed) ++ tasks.old) }
 {
     let Members { goals, starts, .. } = members;
     let mut goals = goals;
+    let mut shares = in_order(shares)?;
     while let Some(goal) = goals.pop() {
         let number = goals.len();
-        leave_passing(alloc, &goal, passed.listed(alloc, number)?, tasks)?;
-        tasks.push(Task::Place(Placing {
+        leave_member(
+            alloc,
             goal,
-            first: start_of(&starts, number),
-            waits: waits.listed(alloc, number)?,
-            signals: signals.listed(alloc, number)?,
-        }))?;
+            number,
+            start_of(&starts, number),
+            &mut shares,
+            tasks,
+        )?;
     }
     Ok(())
+}
+
+// The same, where the rights to signal stand in the order of the numbers.
+fn in_order(shares: Shares) -> Result<Shares, NoMemory>
+    ensures waits { IfOk result (λ all. all.waits ≡ shares.waits) }
+    ensures passed { IfOk result (λ all. all.passed ≡ shares.passed) }
+    ensures signals { IfOk result (λ all. (number : ℕ) → row_of number (numbered all.signals.items) ≡ row_of number (numbered shares.signals.items)) }
+    ensures in_order { IfOk result (λ all. IsNonDecreasingBy (λ item. item.number) all.signals.items) }
+{
+    let Shares {
+        waits,
+        signals,
+        passed,
+    } = shares;
+    Ok(Shares {
+        waits,
+        signals: by_number(signals)?,
+        passed,
+    })
+}
+
+// Leaves the goal of a number, whose parts begin at a place, and takes its rights to signal and those of numbers behind it out.
+fn leave_member<'a>(
+    alloc: Global,
+    goal: NodeRef<'a>,
+    number: usize,
+    first: usize,
+    shares: &mut Shares,
+    tasks: &mut Tasks<'a>,
+) -> Result<(), NoMemory>
+    requires { IsNonDecreasingBy (λ item. item.number) shares.old.signals.items }
+    ensures tasks { OnOk result (tasks.new ≡ Task.Place (record { goal = goal.entry; first = first; waits = row_of number shares.old.waits; signals = row_of number (numbered shares.old.signals.items) }) ∷ (passing goal.entry (row_of number shares.old.passed) ++ tasks.old)) }
+    ensures waits { OnOk result (shares.new.waits ≡ shares.old.waits) }
+    ensures passed { OnOk result (shares.new.passed ≡ shares.old.passed) }
+    ensures rest { OnOk result ((other : ℕ) → other < number → row_of other (numbered shares.new.signals.items) ≡ row_of other (numbered shares.old.signals.items)) }
+    ensures in_order { OnOk result (IsNonDecreasingBy (λ item. item.number) shares.new.signals.items) }
+{
+    let passed = shares.passed.listed(alloc, number)?;
+    leave_passing(alloc, &goal, passed, tasks)?;
+    let waits = shares.waits.listed(alloc, number)?;
+    let signals = take_row(alloc, number, &mut shares.signals)?;
+    tasks.push(Task::Place(Placing {
+        goal,
+        first,
+        waits,
+        signals,
+    }))
 }

@@ -3,9 +3,10 @@ ghost use Rattle.std.specs.Prelude.{◌≡◌, IfOk};
 ghost use Rattle.merc_par_split.specs.Split.{all_split};
 ghost use Rattle.merc_par_split.specs.Sites.{all_sites};
 
-use crate::{SiteInfo, split};
+use crate::split;
 use merc_base::{NoMemory, Sequence};
 use merc_graded_tree::Nodes;
+use merc_rights::SiteInfo;
 use std::alloc::Global;
 
 /// Trees of a program with their waits, signals and sites, and what stands at each site.

@@ -1,14 +1,14 @@
 //! What is to be done to split goals, so that they are gone through without recursion.
-ghost use Rattle.std.specs.Prelude.{◌≡◌, [], ◌∷◌, ◌++◌, ◌+◌, length, IfOk, OnOk, MatchOption};
+ghost use Rattle.std.specs.Prelude.{◌≡◌, [], ◌∷◌, ◌+◌, ◌++◌, IfOk, OnOk, MatchOption};
 ghost use Rattle.merc_par_split.specs.declared.tasks.Task.{Task};
 ghost use Rattle.merc_par_split.specs.Tasks.{passing, relabelled, wraps};
-ghost use Rattle.merc_graded_tree.specs.Nodes.{span_of};
 
-use crate::rights::{Awaited, Right};
 use merc_base::{NoMemory, Sequence, Span};
 use merc_graded_tree::{Label, NodeRef, Root, Running};
+use merc_rights::{Awaited, Right, Signals, sum};
 use std::alloc::Global;
 use std::marker::Model;
+use std::mem;
 
 /// A goal of a conjunct, with its rights.
 #[derive(Drop)]
@@ -19,7 +19,25 @@ pub(crate) struct Placing<'a> {
     /// Each for a variable that the goal uses.
     pub(crate) waits: Sequence<Awaited>,
     /// Each for a variable that the goal binds.
-    pub(crate) signals: Sequence<Right>,
+    pub(crate) signals: Signals,
+}
+
+impl<'a> Placing<'a> {
+    /// Takes the rights to signal. None are left.
+    pub(crate) fn take_signals(&mut self, alloc: Global) -> Signals
+        ensures taken { result ≡ self.old.signals }
+        ensures left { self.new ≡ record { goal = self.old.goal; first = self.old.first; waits = self.old.waits; signals = [] } }
+    {
+        mem::replace(&mut self.signals, Signals::none(alloc))
+    }
+
+    /// Takes the rights to wait. None are left.
+    pub(crate) fn take_waits(&mut self, alloc: Global) -> Sequence<Awaited>
+        ensures taken { result ≡ self.old.waits }
+        ensures left { self.new ≡ record { goal = self.old.goal; first = self.old.first; waits = []; signals = self.old.signals } }
+    {
+        mem::replace(&mut self.waits, Sequence::new(alloc))
+    }
 }
 
 /// One thing to do.
@@ -32,7 +50,7 @@ pub(crate) enum Task<'a> {
     /// To put waits behind the others.
     Waits(Sequence<Right>, Span),
     /// To put signals behind the others.
-    Signals(Sequence<Right>, Span),
+    Signals(Signals, Span),
     /// To make the last goals, as many as the root says, one goal that has this label.
     Close(Label),
 }
@@ -104,6 +122,22 @@ pub(crate) fn relabelled(alloc: Global, goal: &NodeRef<'_>, root: Root) -> Resul
     })
 }
 
+/// Leaves to make the last goals, as many as the root says, one goal with this root in the place of a goal.
+///
+/// # Errors
+///
+/// `NoMemory` where memory was refused.
+pub(crate) fn leave_close<'a>(
+    alloc: Global,
+    goal: &NodeRef<'a>,
+    root: Root,
+    tasks: &mut Tasks<'a>,
+) -> Result<(), NoMemory>
+    ensures { OnOk result (tasks.new ≡ Task.Close (relabelled goal.now root) ∷ tasks.old) }
+{
+    tasks.push(Task::Close(relabelled(alloc, goal, root)?))
+}
+
 /// Leaves to make the last goals one conjunction in the place of a goal, which is the goal and so many others. It is the goal
 /// where there are none.
 ///
@@ -121,9 +155,27 @@ pub(crate) fn leave_wrap<'a>(
     if others == 0 {
         return Ok(());
     }
-    let root = Root::Conjunction(Running::Sequential, sum(others, 1)?);
-    let label = relabelled(alloc, goal, root)?;
-    tasks.push(Task::Close(label))
+    let count = sum(others, 1)?;
+    let root = Root::Conjunction(Running::Sequential, count);
+    leave_close(alloc, goal, root, tasks)
+}
+
+/// Leaves to make so many goals, a goal and so many others one conjunction in the place of the goal.
+///
+/// # Errors
+///
+/// `NoMemory` where memory was refused.
+pub(crate) fn leave_around<'a>(
+    alloc: Global,
+    goal: &NodeRef<'a>,
+    before: usize,
+    behind: usize,
+    tasks: &mut Tasks<'a>,
+) -> Result<(), NoMemory>
+    ensures { OnOk result (tasks.new ≡ wraps (before + behind) goal.now ++ tasks.old) }
+{
+    let others = sum(before, behind)?;
+    leave_wrap(alloc, goal, others, tasks)
 }
 
 /// Leaves rights to wait behind a goal.
@@ -145,18 +197,4 @@ pub(crate) fn leave_passing<'a>(
     }
     leave_wrap(alloc, goal, count, tasks)?;
     tasks.push(Task::Waits(rights, goal.span()))
-}
-
-/// Two numbers together.
-///
-/// # Errors
-///
-/// `NoMemory` where so many things need more memory than there is.
-pub(crate) fn sum(one: usize, other: usize) -> Result<usize, NoMemory>
-    ensures { IfOk result (λ both. both ≡ one + other) }
-{
-    match one.checked_add(other) {
-        Some(both) => Ok(both),
-        None => Err(NoMemory),
-    }
 }

@@ -13,8 +13,9 @@ use Rattle.merc_meaning.specs.Trace.{Env, Trace, Ends, Tick, Answer, Done, Raise
 use Rattle.merc_meaning.specs.Steps.{value_at, values_at, made_if, binds, tested, compared, filled_if, split, computed, operated, raised, entered, brought_back}
 use Rattle.merc_meaning.specs.Runs.{Program, ProcedureBody, answers_once, once_if, called, where_some, basic_trace, goal_trace, node_trace, all_trace, any_trace, arms_trace, body_trace, call_trace}
 use Rattle.merc_script.specs.declared.outcome.Outcome.TheVariants.{Ok as Fine}
+use Rattle.merc_plan.specs.Branch.{Raised as HaltRaised, TooDeep as HaltTooDeep, Starving as HaltStarving}
 use Rattle.merc_plan.specs.BranchScript.{shown_by}
-use Rattle.merc_plan.proofs.Flat.{Det, Done as FlatDone, Enough, events, seen}
+use Rattle.merc_plan.proofs.Flat.{Flat, Det, Done as FlatDone, Halts, Tick as FlatTick, Answer as FlatAnswer, Enough, events, seen}
 
 -- what a run shows
 
@@ -52,20 +53,21 @@ counted_det false t l d = counted_once t l 0 d
 
 -- not too deep before so many steps and one more
 
-fewer : (l : ℕ) (t : Trace) → Enough (suc l) (events t) → Enough l (events t)
-fewer l (Ends Done) h = tt
-fewer l (Ends (Raised v)) h = tt
-fewer l (Ends TooDeep) h = absurd h
-fewer zero (Tick t) h = tt
-fewer (suc l) (Tick t) h = fewer l t h
-fewer l (Answer env t) h = fewer l t h
+pub fewer : {A : Type 0} (l : ℕ) (t : Flat A) → Enough (suc l) t → Enough l t
+fewer l FlatDone h = tt
+fewer l (Halts (HaltRaised v)) h = tt
+fewer l (Halts HaltTooDeep) h = absurd h
+fewer l (Halts HaltStarving) h = tt
+fewer zero (FlatTick t) h = tt
+fewer (suc l) (FlatTick t) h = fewer l t h
+fewer l (FlatAnswer a t) h = fewer l t h
 
 enough_after : (l : ℕ) (t u : Trace) → Enough l (events t) → Enough l (events u) → Enough l (events (after t u))
 enough_after l (Ends Done) u h k = k
 enough_after l (Ends (Raised v)) u h k = tt
 enough_after l (Ends TooDeep) u h k = absurd h
 enough_after zero (Tick t) u h k = tt
-enough_after (suc l) (Tick t) u h k = enough_after l t u h (fewer l u k)
+enough_after (suc l) (Tick t) u h k = enough_after l t u h (fewer l (events u) k)
 enough_after l (Answer env t) u h k = enough_after l t u h k
 
 enough_each : (l : ℕ) (f : Env → Trace) (t : Trace) → ((env : Env) → Enough l (events (f env))) → Enough l (events t) → Enough l (events (each f t))
@@ -73,7 +75,7 @@ enough_each l f (Ends Done) k h = tt
 enough_each l f (Ends (Raised v)) k h = tt
 enough_each l f (Ends TooDeep) k h = absurd h
 enough_each zero f (Tick t) k h = tt
-enough_each (suc l) f (Tick t) k h = enough_each l f t (λ env. fewer l (f env) (k env)) h
+enough_each (suc l) f (Tick t) k h = enough_each l f t (λ env. fewer l (events (f env)) (k env)) h
 enough_each l f (Answer env t) k h = enough_after l (f env) (each f t) (k env) (enough_each l f t k h)
 
 enough_choose : (l : ℕ) (f : Env → Trace) (u t : Trace) → ((env : Env) → Enough l (events (f env))) → Enough l (events u) → Enough l (events t)
@@ -82,7 +84,7 @@ enough_choose l f u (Ends Done) k w h = w
 enough_choose l f u (Ends (Raised v)) k w h = tt
 enough_choose l f u (Ends TooDeep) k w h = absurd h
 enough_choose zero f u (Tick t) k w h = tt
-enough_choose (suc l) f u (Tick t) k w h = enough_choose l f u t (λ env. fewer l (f env) (k env)) (fewer l u w) h
+enough_choose (suc l) f u (Tick t) k w h = enough_choose l f u t (λ env. fewer l (events (f env)) (k env)) (fewer l (events u) w) h
 enough_choose l f u (Answer env t) k w h = enough_after l (f env) (each f t) (k env) (enough_each l f t k h)
 
 enough_negated : (l : ℕ) (env : Env) (t : Trace) → Enough l (events t) → Enough l (events (negated env t))
@@ -117,7 +119,7 @@ enough_where : (l : ℕ) (o : Option Values) (t u : Trace) → Enough l (events 
 enough_where l None t u h k = k
 enough_where l (Some vs) t u h k = h
 
-enough_binds : (l : ℕ) (env : Env) (x : ℕ) (o : Option Value) → Enough l (events (binds env x o))
+pub enough_binds : (l : ℕ) (env : Env) (x : ℕ) (o : Option Value) → Enough l (events (binds env x o))
 enough_binds l env x None = tt
 enough_binds l env x (Some v) = tt
 
@@ -125,7 +127,7 @@ enough_tested : (l : ℕ) (b : Bool) (env : Env) → Enough l (events (tested b 
 enough_tested l true env = tt
 enough_tested l false env = tt
 
-enough_compared : (l : ℕ) (env : Env) (holds : Value → Value → Bool) (o p : Option Value) → Enough l (events (compared env holds o p))
+pub enough_compared : (l : ℕ) (env : Env) (holds : Value → Value → Bool) (o p : Option Value) → Enough l (events (compared env holds o p))
 enough_compared l env holds None p = tt
 enough_compared l env holds (Some v) None = tt
 enough_compared l env holds (Some v) (Some w) = enough_tested l (holds v w) env
@@ -134,7 +136,7 @@ enough_filled : (l : ℕ) (env : Env) (xs : List ℕ) (o : Option Values) → En
 enough_filled l env xs None = tt
 enough_filled l env xs (Some vs) = tt
 
-enough_split : (l : ℕ) (env : Env) (symbol : Symbol) (xs : List ℕ) (o : Option Value) → Enough l (events (split env symbol xs o))
+pub enough_split : (l : ℕ) (env : Env) (symbol : Symbol) (xs : List ℕ) (o : Option Value) → Enough l (events (split env symbol xs o))
 enough_split l env symbol xs None = tt
 enough_split l env symbol xs (Some v) = enough_filled l env xs (fields symbol v)
 
@@ -142,7 +144,7 @@ enough_computed : (l : ℕ) (env : Env) (x : ℕ) (r : Result) → Enough l (eve
 enough_computed l env x (Gives number) = tt
 enough_computed l env x ZeroDivisor = tt
 
-enough_operated : (l : ℕ) (env : Env) (op : Operation) (x : ℕ) (o p : Option Value) → Enough l (events (operated env op x o p))
+pub enough_operated : (l : ℕ) (env : Env) (op : Operation) (x : ℕ) (o p : Option Value) → Enough l (events (operated env op x o p))
 enough_operated l env op x None p = tt
 enough_operated l env op x (Some (TextValue t)) p = tt
 enough_operated l env op x (Some (Con s vs)) p = tt
@@ -151,7 +153,7 @@ enough_operated l env op x (Some (Int a)) (Some (TextValue t)) = tt
 enough_operated l env op x (Some (Int a)) (Some (Con s vs)) = tt
 enough_operated l env op x (Some (Int a)) (Some (Int b)) = enough_computed l env x (arithmetic op a b)
 
-enough_raised : (l : ℕ) (o : Option Value) → Enough l (events (raised o))
+pub enough_raised : (l : ℕ) (o : Option Value) → Enough l (events (raised o))
 enough_raised l None = tt
 enough_raised l (Some (TextValue t)) = tt
 enough_raised l (Some (Int a)) = tt

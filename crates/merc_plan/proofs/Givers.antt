@@ -16,10 +16,10 @@ use Rattle.merc_meaning.specs.Steps.{value_at, values_at, made_if, binds, compar
 use Rattle.merc_meaning.specs.Runs.{Program, ProcedureBody, answers_once}
 use Rattle.merc_script.specs.declared.cells.Move.{Move}
 use Rattle.merc_core.specs.Rights.{has, is_kind, moved_to}
-use Rattle.merc_par_split.specs.declared.sites.CellInfo.{CellInfo}
-use Rattle.merc_par_split.specs.declared.sites.Moved.{Moved}
-use Rattle.merc_par_split.specs.declared.sites.SiteInfo.{SiteInfo}
-use Rattle.merc_par_split.specs.Rights.{is_sooner}
+use Rattle.merc_rights.specs.declared.sites.CellInfo.{CellInfo}
+use Rattle.merc_rights.specs.declared.sites.Moved.{Moved}
+use Rattle.merc_rights.specs.declared.sites.SiteInfo.{SiteInfo}
+use Rattle.merc_rights.specs.Rights.{is_sooner}
 use Rattle.merc_plan.specs.Branch.{HeldWait, HeldSignal, Hold, NamedCell, Gift, BranchCourse, names, gives}
 use Rattle.merc_plan.specs.Hold.{holding, with_env, wait_for, sooner, signal_for, named, own_signals, child_for, moves_if, moves_from, goes_to, signals_into, stays, fork_of, conjunct_hold, hold_behind}
 use Rattle.merc_plan.specs.Branches.{traced, awaited, signal_cell, signalled, called, where_some, taken_arm, info_of, Plan, basic_branch, goal_branch, node_branch, all_branch, any_branch, arms_branch, conjunct_branches, conjunct_gifts, body_branch, call_branch}
@@ -130,13 +130,13 @@ moved_left k c (m ∷ ms) ns h = on (nat_eq m.child k && is_kind true m) h (λ i
     on false i rec = rec i
 
 -- a conjunct's rights to signal are those that its fork gives it
-conjunct_within : (info : SiteInfo) (k : ℕ) (goal : Node) (hold : Hold) (given : List Gift) → 1 ≤ hold.next → HoldWithin (λ c. has c (signals_to k (fork_of info hold))) (conjunct_hold info k goal hold given)
+conjunct_within : (info : SiteInfo) (k : ℕ) (goal : Node) (hold : Hold) (given : List Gift) → 1 ≤ hold.next → HoldWithin (λ c. has c (signals_to k (fork_of info no_nodes hold))) (conjunct_hold info k goal hold given)
 conjunct_within info k goal hold given l = (
-  each_append (λ (one : HeldSignal). has one.cell (signals_to k (fork_of info hold)) ≡ true) (own_signals k (named hold.next info.cells)) (signals_into k info.moves hold.signals)
-      (each_more (λ (one : HeldSignal). has one.cell own ≡ true) (λ one. has one.cell (signals_to k (fork_of info hold)) ≡ true)
+  each_append (λ (one : HeldSignal). has one.cell (signals_to k (fork_of info no_nodes hold)) ≡ true) (own_signals k (named hold.next info.cells)) (signals_into k info.moves hold.signals)
+      (each_more (λ (one : HeldSignal). has one.cell own ≡ true) (λ one. has one.cell (signals_to k (fork_of info no_nodes hold)) ≡ true)
       (λ one h. in_left one.cell own (moved_to k true (moves_from info.moves hold)) h) (own_signals k (named hold.next info.cells))
       (own_within (filter (λ (one : NamedCell). nat_eq one.producer k) (named hold.next info.cells))))
-      (each_more (λ (one : HeldSignal). has one.cell (moved_to k true before) ≡ true) (λ one. has one.cell (signals_to k (fork_of info hold)) ≡ true)
+      (each_more (λ (one : HeldSignal). has one.cell (moved_to k true before) ≡ true) (λ one. has one.cell (signals_to k (fork_of info no_nodes hold)) ≡ true)
       (λ one h. in_right one.cell own (moved_to k true (moves_from info.moves hold)) (moved_left k one.cell before behind h)) (signals_into k info.moves hold.signals)
       (into_within k info.moves hold.signals)),
   omega (arith, l),
@@ -180,8 +180,8 @@ fork_moves rights info hold w =
     (signal_moves rights info.moves hold.signals w.0) (wait_moves rights info.moves hold.waits)
 
 -- no cell of a fork is 0
-fork_none : (rights : ℕ → Bool) (info : SiteInfo) (hold : Hold) → rights 0 ≡ false → HoldWithin rights hold → (k : ℕ) → has 0 (signals_to k (fork_of info hold)) ≡ false
-fork_none rights info hold n w k = absent 0 (signals_to k (fork_of info hold)) (λ h. on (in_either 0 own (moved_to k true (moves_from info.moves hold)) h))
+fork_none : (rights : ℕ → Bool) (info : SiteInfo) (hold : Hold) → rights 0 ≡ false → HoldWithin rights hold → (k : ℕ) → has 0 (signals_to k (fork_of info no_nodes hold)) ≡ false
+fork_none rights info hold n w k = absent 0 (signals_to k (fork_of info no_nodes hold)) (λ h. on (in_either 0 own (moved_to k true (moves_from info.moves hold)) h))
   where
     own : List ℕ
     own = makes k (named hold.next info.cells)
@@ -266,7 +266,7 @@ module _ (plan : Plan) (program : Program) (call : Procedure → Hold → Branch
         let info = info_of (plan site.number) in
         let none = fork_none rights info hold n w in (
           fork_moves rights info hold w,
-          (none, (conjuncts_within goals info hold 1 [] none w.1, (behind_within rights info hold (conjunct_gifts plan program call info hold 1 goals []) w, tt))),
+          (none, (conjuncts_within goals goals info hold 1 [] none w.1, (behind_within rights info hold (conjunct_gifts plan program call info hold 1 goals []) w, tt))),
         )
     goal_within (Disjunction goals) rights hold n w = any_within goals rights hold n w
     goal_within (Switch variable arms) rights hold n w = arms_within arms (value_at hold.env variable) rights hold n w
@@ -296,12 +296,12 @@ module _ (plan : Plan) (program : Program) (call : Procedure → Hold → Branch
         arm_within rights value symbol (node_branch plan program call body hold) (arms_branch plan program call rest value hold) (node_within body rights hold n w)
         (arms_within rest value rights hold n w)
 
-    conjuncts_within : (goals : Nodes) (info : SiteInfo) (hold : Hold) (k : ℕ) (given : List Gift) → ((j : ℕ) → has 0 (signals_to j (fork_of info hold)) ≡ false) → 1 ≤ hold.next
-        → AllWithin (fork_of info hold) k (conjunct_branches plan program call info hold k goals given)
-    conjuncts_within no_nodes info hold k given z l = tt
-    conjuncts_within (more_nodes first rest) info hold k given z l = (
-      node_within first (λ c. has c (signals_to k (fork_of info hold))) (conjunct_hold info k first hold given) (z k) (conjunct_within info k first hold given l),
-      conjuncts_within rest info hold (suc k) (given ++ gives (node_branch plan program call first (conjunct_hold info k first hold given))) z l,
+    conjuncts_within : (all goals : Nodes) (info : SiteInfo) (hold : Hold) (k : ℕ) (given : List Gift) → ((j : ℕ) → has 0 (signals_to j (fork_of info no_nodes hold)) ≡ false) → 1 ≤ hold.next
+        → AllWithin (fork_of info all hold) k (conjunct_branches plan program call info hold k goals given)
+    conjuncts_within all no_nodes info hold k given z l = tt
+    conjuncts_within all (more_nodes first rest) info hold k given z l = (
+      node_within first (λ c. has c (signals_to k (fork_of info no_nodes hold))) (conjunct_hold info k first hold given) (z k) (conjunct_within info k first hold given l),
+      conjuncts_within all rest info hold (suc k) (given ++ gives (node_branch plan program call first (conjunct_hold info k first hold given))) z l,
     )
 
 body_within : (plan : Plan) (program : Program) (call : Procedure → Hold → BranchCourse) → ((procedure : Procedure) → CallWithin (call procedure)) → (body : Option ProcedureBody)

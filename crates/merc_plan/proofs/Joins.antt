@@ -6,7 +6,7 @@ use Rattle.merc_script.specs.declared.outcome.Outcome.TheVariants.{Ok as Fine, R
 use Rattle.merc_script.specs.Script.{Script, Ends, end_of, ends}
 use Rattle.merc_script.specs.Joining.{walk, lacks_memory, joined}
 use Rattle.merc_core.specs.Rights.{has, without, moved}
-use Rattle.merc_plan.specs.Branch.{Hold, BranchCourse, BranchCourses, Over, Breaks, Steps, Finds, Awaits, Gives, Forks, no_branches, more_branches, Raised, TooDeep, Starving, names}
+use Rattle.merc_plan.specs.Branch.{Hold, Fork, BranchCourse, BranchCourses, Over, Breaks, Steps, Finds, Awaits, Gives, Forks, no_branches, more_branches, Raised, TooDeep, Starving, names}
 use Rattle.merc_plan.specs.BranchScript.{those_of, signalled, all_signalled, going, script, scripts}
 use Rattle.merc_plan.proofs.Flat.{Flat, Done, Answer, seen}
 use Rattle.merc_plan.proofs.Judging.{flat, flats, marks, all_marks, AllAnswer, Served, AllServed, Sure, AllSure}
@@ -91,90 +91,6 @@ plus_none s = omega arith
 none_plus : (l : ℕ) → 0 + l ≡ l
 none_plus l = omega arith
 
-mutual
-  -- the end of a script is what the trace shows
-  pub end_law : (root : Bool) (t : BranchCourse) (l s : ℕ) (g : List ℕ) → Served root g t → Sure t → end_of (script root l s g t) ≡ seen root l s (flat t)
-  end_law root Over l s g sv su = refl
-  end_law root (Breaks (Raised e)) l s g sv su = refl
-  end_law root (Breaks TooDeep) l s g sv su = refl
-  end_law root (Breaks Starving) l s g sv su = refl
-  end_law root (Steps t) zero s g sv su = refl
-  end_law root (Steps t) (suc l) s g sv su = end_law root t l (suc s) g sv su
-  end_law true (Finds hold t) l s g sv su = end_law true t l s g sv su
-  end_law false (Finds hold t) l s g sv su = refl
-  end_law root (Awaits c v t) l s g sv su = ap (λ b. end_of (if b then script root l s g t else Ends Starved)) sv.0 ∙ end_law root t l s g sv.1 su
-  end_law root (Gives c v t) l s g sv su = end_law root t l s g sv su
-  end_law root (Forks i x ks t) l s g sv su =
-      (ap (λ o. end_of (going o s
-      (λ u. script root (l - u) (s + u) (without (names x.cells) g ++ all_signalled (scripts l (without (names x.cells) g) ks)) t)))
-      (joined_is_walk ks l (without (names x.cells) g))
-      ∙ (end_going (walk l 0 (ends (scripts l (without (names x.cells) g) ks))) s
-      (λ u. script root (l - u) (s + u) (without (names x.cells) g ++ all_signalled (scripts l (without (names x.cells) g) ks)) t)
-      ∙ kids_law root ks l 0 s l (none_plus l) (without (names x.cells) g) sv.0 su.0 (flat t)
-      (λ u. end_of (script root (l - u) (s + u) (without (names x.cells) g ++ all_signalled (scripts l (without (names x.cells) g) ks)) t))
-      (λ n m e h. end_law root t (l - n) (s + n) (without (names x.cells) g ++ all_signalled (scripts l (without (names x.cells) g) ks))
-      (subst (λ y. Served root (without (names x.cells) g ++ y) t) (sym (fine_kids ks l 0 n (without (names x.cells) g) sv.0 su.0 h).0)
-      (sv.1 (fine_kids ks l 0 n (without (names x.cells) g) sv.0 su.0 h).1))
-      (su.1 (fine_kids ks l 0 n (without (names x.cells) g) sv.0 su.0 h).1)
-      ∙ ap (λ y. seen root y (s + n) (flat t)) (left_of l n m e))))
-      ∙ ap (λ y. seen root l y (flats ks (flat t))) (plus_none s)
-
-  pub kids_law : (root : Bool) (ks : BranchCourses) (m u s l : ℕ) → u + m ≡ l → (g : List ℕ) → AllServed g ks → AllSure ks → (w : Flat Hold) (k : ℕ → Outcome)
-      → ((n b : ℕ) → n + b ≡ l → walk l u (ends (scripts l g ks)) ≡ Fine n → k n ≡ seen root b (s + n) w)
-      → onward (walk l u (ends (scripts l g ks))) s k ≡ seen root m (s + u) (flats ks w)
-  kids_law root no_branches m u s l e g sv su w k h = h u m e refl
-  kids_law root (more_branches t more) m u s l e g sv su w k h =
-      ap (λ o. onward (walk l u (o ∷ ends (scripts l (g ++ signalled (script false l 0 g t)) more))) s k) (end_law false t l 0 g sv.0 su.0)
-      ∙ first_step root (flat t) su.1.0 m u l e (ends (scripts l (g ++ signalled (script false l 0 g t)) more)) s k (flats more w)
-      (λ a b q e'. kids_law root more b (u + a) s l e' (g ++ signalled (script false l 0 g t))
-      (subst (λ x. AllServed (g ++ x) more) (sym (fine_law t l 0 a g sv.0 su.0 (end_law false t l 0 g sv.0 su.0 ∙ q)))
-      (sv.1 (answers_of (flat t) su.1.0 l 0 a q)))
-      (su.1.1 (answers_of (flat t) su.1.0 l 0 a q)) w k
-      (λ n c f r. h n c f (ap (λ o. walk l u (o ∷ ends (scripts l (g ++ signalled (script false l 0 g t)) more))) (end_law false t l 0 g sv.0 su.0 ∙ q)
-      ∙ (stays (u + a) l (walk l (u + a) (ends (scripts l (g ++ signalled (script false l 0 g t)) more))) Limit (omega (arith, e')) ∙ r))))
-
-  -- a conjunct's script that ends well signals all that its course signals
-  pub fine_law : (t : BranchCourse) (l s n : ℕ) (g : List ℕ) → Served false g t → Sure t → end_of (script false l s g t) ≡ Fine n
-      → signalled (script false l s g t) ≡ marks t
-  fine_law Over l s n g sv su h = refl
-  fine_law (Breaks (Raised e)) l s n g sv su h = refl
-  fine_law (Breaks TooDeep) l s n g sv su h = refl
-  fine_law (Breaks Starving) l s n g sv su h = refl
-  fine_law (Steps t) zero s n g sv su h = absurd (cc)
-  fine_law (Steps t) (suc l) s n g sv su h = fine_law t l (suc s) n g sv su h
-  fine_law (Finds hold t) l s n g sv su h = refl
-  fine_law (Awaits c v t) l s n g sv su h =
-      ap (λ b. signalled (if b then script false l s g t else Ends Starved)) sv.0
-      ∙ fine_law t l s n g sv.1 su (sym (ap (λ b. end_of (if b then script false l s g t else Ends Starved)) sv.0) ∙ h)
-  fine_law (Gives c v t) l s n g sv su h = ap (λ x. c ∷ x) (fine_law t l s n g sv su h)
-  fine_law (Forks i x ks t) l s n g sv su h =
-      let f = going_fine (joined l (ends (scripts l (without (names x.cells) g) ks))) s n
-      (λ u. script false (l - u) (s + u) (without (names x.cells) g ++ all_signalled (scripts l (without (names x.cells) g) ks)) t) h in
-      let q = fine_kids ks l 0 f.steps (without (names x.cells) g) sv.0 su.0 (sym (joined_is_walk ks l (without (names x.cells) g)) ∙ f.is_fine) in
-      ap (λ o. those_of (all_signalled (scripts l (without (names x.cells) g) ks)) (moved true x.moves) ++ signalled (going o s
-      (λ u. script false (l - u) (s + u) (without (names x.cells) g ++ all_signalled (scripts l (without (names x.cells) g) ks)) t))) f.is_fine
-      ∙ (ap (λ y. those_of y (moved true x.moves)
-      ++ signalled (script false (l - f.steps) (s + f.steps) (without (names x.cells) g ++ all_signalled (scripts l (without (names x.cells) g) ks)) t)) q.0
-      ∙ ap (λ y. those_of (all_marks ks) (moved true x.moves) ++ y)
-      (fine_law t (l - f.steps) (s + f.steps) n (without (names x.cells) g ++ all_signalled (scripts l (without (names x.cells) g) ks))
-      (subst (λ y. Served false (without (names x.cells) g ++ y) t) (sym q.0) (sv.1 q.1)) (su.1 q.1) f.next_fine))
-
-  pub fine_kids : (ks : BranchCourses) (l u n : ℕ) (g : List ℕ) → AllServed g ks → AllSure ks → walk l u (ends (scripts l g ks)) ≡ Fine n
-      → (all_signalled (scripts l g ks) ≡ all_marks ks) × AllAnswer ks
-  fine_kids no_branches l u n g sv su h = (refl, tt)
-  fine_kids (more_branches t more) l u n g sv su h =
-      let f = walk_fine l u n (end_of (script false l 0 g t)) (ends (scripts l (g ++ signalled (script false l 0 g t)) more)) h in
-      let a = answers_of (flat t) su.1.0 l 0 f.steps (sym (end_law false t l 0 g sv.0 su.0) ∙ f.is_fine) in
-      let p = fine_law t l 0 f.steps g sv.0 su.0 f.is_fine in
-      let q = fine_kids more l (u + f.steps) n (g ++ signalled (script false l 0 g t)) (subst (λ x. AllServed (g ++ x) more) (sym p) (sv.1 a))
-      (su.1.1 a) f.rest in
-      (ap (λ x. x ++ all_signalled (scripts l (g ++ signalled (script false l 0 g t)) more)) p ∙ ap (λ x. marks t ++ x) q.0, (a, q.1))
-
--- a fork that joins well has conjuncts that all answer and signal what they are to signal
-pub fine_joined : (ks : BranchCourses) (l n : ℕ) (g : List ℕ) → AllServed g ks → AllSure ks → joined l (ends (scripts l g ks)) ≡ Fine n
-    → (all_signalled (scripts l g ks) ≡ all_marks ks) × AllAnswer ks
-fine_joined ks l n g sv su h = fine_kids ks l 0 n g sv su (sym (joined_is_walk ks l g) ∙ h)
-
 none_before : (n : ℕ) → 0 + n ≡ n
 none_before n = omega arith
 
@@ -185,10 +101,95 @@ none_out Limit = refl
 none_out Starved = refl
 none_out NoMemory = refl
 
--- the outcomes of a fork's conjuncts join to what they show one behind the other
-pub joined_law : (kids : BranchCourses) (l : ℕ) (g : List ℕ) (hold : Hold) → AllServed g kids → AllSure kids
-    → joined l (ends (scripts l g kids)) ≡ seen false l 0 (flats kids (Answer hold Done))
-joined_law kids l g hold sv su =
-    joined_is_walk kids l g
-    ∙ (sym (none_out (walk l 0 (ends (scripts l g kids))))
-    ∙ kids_law false kids l 0 0 l (none_plus l) g sv su (Answer hold Done) (λ u. Fine u) (λ n b e h. ap Fine (sym (none_before n))))
+module _ (Holds : Fork → BranchCourses → Type 0) where
+  mutual
+    -- the end of a script is what the trace shows
+    pub end_law : (root : Bool) (t : BranchCourse) (l s : ℕ) (g : List ℕ) → Served root g t → Sure Holds t → end_of (script root l s g t) ≡ seen root l s (flat t)
+    end_law root Over l s g sv su = refl
+    end_law root (Breaks (Raised e)) l s g sv su = refl
+    end_law root (Breaks TooDeep) l s g sv su = refl
+    end_law root (Breaks Starving) l s g sv su = refl
+    end_law root (Steps t) zero s g sv su = refl
+    end_law root (Steps t) (suc l) s g sv su = end_law root t l (suc s) g sv su
+    end_law true (Finds hold t) l s g sv su = end_law true t l s g sv su
+    end_law false (Finds hold t) l s g sv su = refl
+    end_law root (Awaits c v t) l s g sv su = ap (λ b. end_of (if b then script root l s g t else Ends Starved)) sv.0 ∙ end_law root t l s g sv.1 su
+    end_law root (Gives c v t) l s g sv su = end_law root t l s g sv su
+    end_law root (Forks i x ks t) l s g sv su =
+        (ap (λ o. end_of (going o s
+        (λ u. script root (l - u) (s + u) (without (names x.cells) g ++ all_signalled (scripts l (without (names x.cells) g) ks)) t)))
+        (joined_is_walk ks l (without (names x.cells) g))
+        ∙ (end_going (walk l 0 (ends (scripts l (without (names x.cells) g) ks))) s
+        (λ u. script root (l - u) (s + u) (without (names x.cells) g ++ all_signalled (scripts l (without (names x.cells) g) ks)) t)
+        ∙ kids_law root ks l 0 s l (none_plus l) (without (names x.cells) g) sv.0 su.1.0 (flat t)
+        (λ u. end_of (script root (l - u) (s + u) (without (names x.cells) g ++ all_signalled (scripts l (without (names x.cells) g) ks)) t))
+        (λ n m e h. end_law root t (l - n) (s + n) (without (names x.cells) g ++ all_signalled (scripts l (without (names x.cells) g) ks))
+        (subst (λ y. Served root (without (names x.cells) g ++ y) t) (sym (fine_kids ks l 0 n (without (names x.cells) g) sv.0 su.1.0 h).0)
+        (sv.1 (fine_kids ks l 0 n (without (names x.cells) g) sv.0 su.1.0 h).1))
+        (su.1.1 (fine_kids ks l 0 n (without (names x.cells) g) sv.0 su.1.0 h).1)
+        ∙ ap (λ y. seen root y (s + n) (flat t)) (left_of l n m e))))
+        ∙ ap (λ y. seen root l y (flats ks (flat t))) (plus_none s)
+
+    pub kids_law : (root : Bool) (ks : BranchCourses) (m u s l : ℕ) → u + m ≡ l → (g : List ℕ) → AllServed g ks → AllSure Holds ks → (w : Flat Hold) (k : ℕ → Outcome)
+        → ((n b : ℕ) → n + b ≡ l → walk l u (ends (scripts l g ks)) ≡ Fine n → k n ≡ seen root b (s + n) w)
+        → onward (walk l u (ends (scripts l g ks))) s k ≡ seen root m (s + u) (flats ks w)
+    kids_law root no_branches m u s l e g sv su w k h = h u m e refl
+    kids_law root (more_branches t more) m u s l e g sv su w k h =
+        ap (λ o. onward (walk l u (o ∷ ends (scripts l (g ++ signalled (script false l 0 g t)) more))) s k) (end_law false t l 0 g sv.0 su.0)
+        ∙ first_step root (flat t) su.1.0 m u l e (ends (scripts l (g ++ signalled (script false l 0 g t)) more)) s k (flats more w)
+        (λ a b q e'. kids_law root more b (u + a) s l e' (g ++ signalled (script false l 0 g t))
+        (subst (λ x. AllServed (g ++ x) more) (sym (fine_law t l 0 a g sv.0 su.0 (end_law false t l 0 g sv.0 su.0 ∙ q)))
+        (sv.1 (answers_of (flat t) su.1.0 l 0 a q)))
+        (su.1.1 (answers_of (flat t) su.1.0 l 0 a q)) w k
+        (λ n c f r. h n c f (ap (λ o. walk l u (o ∷ ends (scripts l (g ++ signalled (script false l 0 g t)) more))) (end_law false t l 0 g sv.0 su.0 ∙ q)
+        ∙ (stays (u + a) l (walk l (u + a) (ends (scripts l (g ++ signalled (script false l 0 g t)) more))) Limit (omega (arith, e')) ∙ r))))
+
+    -- a conjunct's script that ends well signals all that its course signals
+    pub fine_law : (t : BranchCourse) (l s n : ℕ) (g : List ℕ) → Served false g t → Sure Holds t → end_of (script false l s g t) ≡ Fine n
+        → signalled (script false l s g t) ≡ marks t
+    fine_law Over l s n g sv su h = refl
+    fine_law (Breaks (Raised e)) l s n g sv su h = refl
+    fine_law (Breaks TooDeep) l s n g sv su h = refl
+    fine_law (Breaks Starving) l s n g sv su h = refl
+    fine_law (Steps t) zero s n g sv su h = absurd (cc)
+    fine_law (Steps t) (suc l) s n g sv su h = fine_law t l (suc s) n g sv su h
+    fine_law (Finds hold t) l s n g sv su h = refl
+    fine_law (Awaits c v t) l s n g sv su h =
+        ap (λ b. signalled (if b then script false l s g t else Ends Starved)) sv.0
+        ∙ fine_law t l s n g sv.1 su (sym (ap (λ b. end_of (if b then script false l s g t else Ends Starved)) sv.0) ∙ h)
+    fine_law (Gives c v t) l s n g sv su h = ap (λ x. c ∷ x) (fine_law t l s n g sv su h)
+    fine_law (Forks i x ks t) l s n g sv su h =
+        let f = going_fine (joined l (ends (scripts l (without (names x.cells) g) ks))) s n
+        (λ u. script false (l - u) (s + u) (without (names x.cells) g ++ all_signalled (scripts l (without (names x.cells) g) ks)) t) h in
+        let q = fine_kids ks l 0 f.steps (without (names x.cells) g) sv.0 su.1.0 (sym (joined_is_walk ks l (without (names x.cells) g)) ∙ f.is_fine) in
+        ap (λ o. those_of (all_signalled (scripts l (without (names x.cells) g) ks)) (moved true x.moves) ++ signalled (going o s
+        (λ u. script false (l - u) (s + u) (without (names x.cells) g ++ all_signalled (scripts l (without (names x.cells) g) ks)) t))) f.is_fine
+        ∙ (ap (λ y. those_of y (moved true x.moves)
+        ++ signalled (script false (l - f.steps) (s + f.steps) (without (names x.cells) g ++ all_signalled (scripts l (without (names x.cells) g) ks)) t)) q.0
+        ∙ ap (λ y. those_of (all_marks ks) (moved true x.moves) ++ y)
+        (fine_law t (l - f.steps) (s + f.steps) n (without (names x.cells) g ++ all_signalled (scripts l (without (names x.cells) g) ks))
+        (subst (λ y. Served false (without (names x.cells) g ++ y) t) (sym q.0) (sv.1 q.1)) (su.1.1 q.1) f.next_fine))
+
+    pub fine_kids : (ks : BranchCourses) (l u n : ℕ) (g : List ℕ) → AllServed g ks → AllSure Holds ks → walk l u (ends (scripts l g ks)) ≡ Fine n
+        → (all_signalled (scripts l g ks) ≡ all_marks ks) × AllAnswer ks
+    fine_kids no_branches l u n g sv su h = (refl, tt)
+    fine_kids (more_branches t more) l u n g sv su h =
+        let f = walk_fine l u n (end_of (script false l 0 g t)) (ends (scripts l (g ++ signalled (script false l 0 g t)) more)) h in
+        let a = answers_of (flat t) su.1.0 l 0 f.steps (sym (end_law false t l 0 g sv.0 su.0) ∙ f.is_fine) in
+        let p = fine_law t l 0 f.steps g sv.0 su.0 f.is_fine in
+        let q = fine_kids more l (u + f.steps) n (g ++ signalled (script false l 0 g t)) (subst (λ x. AllServed (g ++ x) more) (sym p) (sv.1 a))
+        (su.1.1 a) f.rest in
+        (ap (λ x. x ++ all_signalled (scripts l (g ++ signalled (script false l 0 g t)) more)) p ∙ ap (λ x. marks t ++ x) q.0, (a, q.1))
+
+  -- a fork that joins well has conjuncts that all answer and signal what they are to signal
+  pub fine_joined : (ks : BranchCourses) (l n : ℕ) (g : List ℕ) → AllServed g ks → AllSure Holds ks → joined l (ends (scripts l g ks)) ≡ Fine n
+      → (all_signalled (scripts l g ks) ≡ all_marks ks) × AllAnswer ks
+  fine_joined ks l n g sv su h = fine_kids ks l 0 n g sv su (sym (joined_is_walk ks l g) ∙ h)
+
+  -- the outcomes of a fork's conjuncts join to what they show one behind the other
+  pub joined_law : (kids : BranchCourses) (l : ℕ) (g : List ℕ) (hold : Hold) → AllServed g kids → AllSure Holds kids
+      → joined l (ends (scripts l g kids)) ≡ seen false l 0 (flats kids (Answer hold Done))
+  joined_law kids l g hold sv su =
+      joined_is_walk kids l g
+      ∙ (sym (none_out (walk l 0 (ends (scripts l g kids))))
+      ∙ kids_law false kids l 0 0 l (none_plus l) g sv su (Answer hold Done) (λ u. Fine u) (λ n b e h. ap Fine (sym (none_before n))))

@@ -65,20 +65,22 @@ abbrev mutual
   AllServed given no_branches = ⊤
   AllServed given (more_branches t more) = Served false given t × (Answers (flat t) → AllServed (given ++ marks t) more)
 
--- each conjunct of each fork answers once at most, and does not end without an answer, where all to its left answered
-abbrev mutual
-  pub Sure : BranchCourse → Type 0
-  Sure Over = ⊤
-  Sure (Breaks h) = ⊤
-  Sure (Steps t) = Sure t
-  Sure (Finds hold t) = Sure t
-  Sure (Awaits c v t) = Sure t
-  Sure (Gives c v t) = Sure t
-  Sure (Forks i x kids t) = AllSure kids × (AllAnswer kids → Sure t)
+-- Each conjunct of each fork answers once at most, and does not end without an answer, where all to its left answered; and of each fork that is reached so there
+-- holds what may be asked of it.
+module _ (Holds : Fork → BranchCourses → Type 0) where
+  abbrev mutual
+    pub Sure : BranchCourse → Type 0
+    Sure Over = ⊤
+    Sure (Breaks h) = ⊤
+    Sure (Steps t) = Sure t
+    Sure (Finds hold t) = Sure t
+    Sure (Awaits c v t) = Sure t
+    Sure (Gives c v t) = Sure t
+    Sure (Forks i x kids t) = Holds x kids × (AllSure kids × (AllAnswer kids → Sure t))
 
-  pub AllSure : BranchCourses → Type 0
-  AllSure no_branches = ⊤
-  AllSure (more_branches t more) = Sure t × (Det (flat t) × (Answers (flat t) → AllSure more))
+    pub AllSure : BranchCourses → Type 0
+    AllSure no_branches = ⊤
+    AllSure (more_branches t more) = Sure t × (Det (flat t) × (Answers (flat t) → AllSure more))
 
 abbrev pub kid_count : BranchCourses → ℕ
 kid_count no_branches = 0

@@ -10,7 +10,10 @@ pub mod Serves
 pub mod Walks
 pub mod Joins
 pub mod Items
+pub mod Shown
 pub mod Depths
+pub mod Deep
+pub mod EachForks
 pub mod Gives
 pub mod Forms
 pub mod Givers

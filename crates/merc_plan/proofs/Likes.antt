@@ -1,7 +1,7 @@
 -- Traces that are alike, and what the combinators make of them.
 use Rattle.std.proofs.Common.{◌≡◌, ℕ, zero, suc, Bool, true, false, refl, ap, sym, subst, ◌∙◌}
 use Rattle.merc_plan.specs.Branch.{Halt, Raised, TooDeep, Starving}
-use Rattle.merc_plan.proofs.Flat.{Flat, Done, Halts, Tick, Answer, Det, Answers, NotDone, Each, Like, behind, after, each, taken, first_alone, choose, negated, once_if, seen}
+use Rattle.merc_plan.proofs.Flat.{Flat, Done, Halts, Tick, Answer, Det, Answers, NotDone, Each, Enough, Like, behind, after, each, taken, first_alone, choose, negated, once_if, seen}
 
 pub like_after : {A B : Type 0} (R : A → B → Type 0) (t : Flat A) (t' : Flat B) (u : Flat A) (u' : Flat B) → Like R t t' → Like R u u' → Like R (after t u) (after t' u')
 like_after R Done Done u u' h k = k
@@ -94,6 +94,30 @@ like_det {A = A} {B = B} R (Halts g) (Halts g') h d = halts_det A B g g' h d
 like_det R (Tick t) (Tick t') h d = like_det R t t' h d
 like_det R (Answer a t) (Answer b t') h d = like_done R t (subst (λ x. Like R t x) d h.1)
 like_det R t t' h d = absurd h
+
+pub like_back : {A B : Type 0} (R : A → B → Type 0) (t : Flat A) (t' : Flat B) → Like R t t' → Like (λ b a. R a b) t' t
+like_back R Done Done h = tt
+like_back R (Halts g) (Halts g') h = sym h
+like_back R (Tick t) (Tick t') h = like_back R t t' h
+like_back R (Answer a t) (Answer b t') h = (h.0, like_back R t t' h.1)
+like_back R t t' h = absurd h
+
+halts_enough : (A B : Type 0) (l : ℕ) (g h : Halt) → g ≡ h → Enough {A = A} l (Halts g) → Enough {A = B} l (Halts h)
+halts_enough A B l (Raised v) (Raised w) e k = tt
+halts_enough A B l (Raised v) TooDeep e k = absurd (cc)
+halts_enough A B l (Raised v) Starving e k = tt
+halts_enough A B l TooDeep h e k = absurd k
+halts_enough A B l Starving (Raised w) e k = tt
+halts_enough A B l Starving TooDeep e k = absurd (cc)
+halts_enough A B l Starving Starving e k = tt
+
+pub like_enough : {A B : Type 0} (R : A → B → Type 0) (t : Flat A) (t' : Flat B) → Like R t t' → (l : ℕ) → Enough l t → Enough l t'
+like_enough R Done Done h l k = tt
+like_enough {A = A} {B = B} R (Halts g) (Halts g') h l k = halts_enough A B l g g' h k
+like_enough R (Tick t) (Tick t') h zero k = tt
+like_enough R (Tick t) (Tick t') h (suc l) k = like_enough R t t' h l k
+like_enough R (Answer a t) (Answer b t') h l k = like_enough R t t' h.1 l k
+like_enough R t t' h l k = absurd h
 
 seen_any : (A B : Type 0) (root : Bool) (l s : ℕ) (h : Halt) → seen {A = A} root l s (Halts h) ≡ seen {A = B} root l s (Halts h)
 seen_any A B true l s (Raised v) = refl

@@ -12,9 +12,9 @@ use Rattle.merc_graded_tree.specs.Nodes.{Node, node, Goal, Basic, Conjunction, D
 use Rattle.merc_graded_tree.specs.Variables.{among, in_node, in_nodes}
 use Rattle.merc_core.specs.Rights.{has}
 use Rattle.merc_core.specs.WellFormed.{AreDistinct}
-use Rattle.merc_par_split.specs.declared.sites.CellInfo.{CellInfo}
-use Rattle.merc_par_split.specs.declared.sites.SiteInfo.{SiteInfo}
-use Rattle.merc_par_split.specs.Rights.{Right, right_to, those, used_in, unused_in, passed_by, bound_in, unbound_in, wait_at, signal_at, in_place_of, between, around, ahead_of, users, signals_of}
+use Rattle.merc_rights.specs.declared.sites.CellInfo.{CellInfo}
+use Rattle.merc_rights.specs.declared.sites.SiteInfo.{SiteInfo}
+use Rattle.merc_rights.specs.Rights.{Right, right_to, those, used_in, unused_in, passed_by, bound_in, unbound_in, wait_at, signal_at, in_place_of, between, around, ahead_of, users, signals_of}
 use Rattle.merc_par_split.specs.Forks.{forks}
 use Rattle.merc_par_split.specs.Split.{may_fail, nothing, moves_in, placed, placed_goal, placed_in_turn, placed_conjuncts, placed_arms, placed_alone, split}
 use Rattle.merc_par_split.specs.Sites.{consumers, cells_of, site_info, planned, planned_goal, planned_in_turn, planned_conjuncts, planned_arms, planned_alone, sites}

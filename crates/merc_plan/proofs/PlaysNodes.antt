@@ -15,7 +15,7 @@ use Rattle.merc_meaning.specs.Runs.{Program, ProcedureBody, answers_once}
 use Rattle.merc_course.specs.Course.{GoalCourse, Meets, AtWait, no_courses, whole, one_answer}
 use Rattle.merc_course.specs.Variables.{node_variables, only}
 use Rattle.merc_course.specs.Courses.{told, handed_on, once_if, called, where_some, taken_arm, basic_course, goal_course, node_course, all_course, any_course, arms_course, conjuncts, body_course, call_course}
-use Rattle.merc_par_split.specs.declared.sites.SiteInfo.{SiteInfo}
+use Rattle.merc_rights.specs.declared.sites.SiteInfo.{SiteInfo}
 use Rattle.merc_plan.specs.Branch.{HeldWait, Hold, Gift, BranchCourse, gives}
 use Rattle.merc_plan.specs.Hold.{holding, with_env, wait_for, signal_for, fork_of, conjunct_hold, hold_behind}
 use Rattle.merc_plan.specs.Branches.{Plan, traced, awaited, signal_cell, signalled, info_of, basic_branch, goal_branch, node_branch, all_branch, any_branch, arms_branch, conjunct_branches, conjunct_gifts, body_branch, call_branch, once_if as b_once_if, called as b_called, where_some as b_where_some, taken_arm as b_taken_arm}
@@ -82,7 +82,7 @@ module _ (plan : Plan) (program : Program) (call : Procedure → Env → GoalCou
     goal-plays (Conjunction Sequential ns) hold = all-plays ns hold
     goal-plays (Conjunction (Parallel None) ns) hold = all-plays ns hold
     goal-plays (Conjunction (Parallel (Some site)) ns) hold =
-        forks site.number (fork_of (info_of (plan site.number)) hold) _ _ _ _ (kids-play (info_of (plan site.number)) 1 ns hold [])
+        forks site.number (fork_of (info_of (plan site.number)) ns hold) _ _ _ _ (kids-play (info_of (plan site.number)) 1 ns hold [])
         (λ n. finds (hold_behind (info_of (plan site.number)) hold (conjunct_gifts plan program branch (info_of (plan site.number)) hold 1 ns [])) _ _ ends_done)
     goal-plays (Disjunction ns) hold = any-plays ns hold
     goal-plays (Switch x arms) hold = arms-plays arms (value_at hold.env x) hold

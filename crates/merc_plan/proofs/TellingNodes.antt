@@ -18,8 +18,8 @@ use Rattle.merc_meaning.specs.Trace.{Trace, Ends, Tick, Answer, Done, Raised as 
 use Rattle.merc_meaning.specs.Steps.{value_at, with_entry, values_at, made_if, binds, compared, split, operated, raised, entered, brought_back}
 use Rattle.merc_meaning.specs.Runs.{Program, ProcedureBody, answers_once}
 use Rattle.merc_core.specs.Rights.{has}
-use Rattle.merc_par_split.specs.declared.sites.CellInfo.{CellInfo}
-use Rattle.merc_par_split.specs.declared.sites.SiteInfo.{SiteInfo}
+use Rattle.merc_rights.specs.declared.sites.CellInfo.{CellInfo}
+use Rattle.merc_rights.specs.declared.sites.SiteInfo.{SiteInfo}
 use Rattle.merc_plan.specs.Branch.{HeldWait, Hold, NamedCell, Fork, Gift, gift_at, value_given, BranchCourse, BranchCourses, Over, Forks, names, gives, all_give, each}
 use Rattle.merc_plan.specs.Hold.{holding, with_env, wait_for, without_wait, signal_for, named, own_waits, child_for, goes_to, waits_into, stays, waits_kept, fork_of, conjunct_hold, hold_behind}
 use Rattle.merc_plan.specs.Branches.{first_name, one_answer, traced, awaited, signal_cell, signalled, once_if, called, where_some, taken_arm, info_of, Plan, basic_branch, goal_branch, node_branch, all_branch, any_branch, arms_branch, conjunct_branches, conjunct_gifts, body_branch, call_branch, root_branch}
@@ -206,19 +206,19 @@ own_variables gs next (info ∷ infos) = on (info.consumer == 0) (own_variables 
     on true e = ap (λ l. info.variable ∷ l) e
     on false e = e
 
-fork_high : (info : SiteInfo) (hold : Hold) (next : ℕ) → hold.next ≡ next → AreHigh next (fork_of info hold)
+fork_high : (info : SiteInfo) (hold : Hold) (next : ℕ) → hold.next ≡ next → AreHigh next (fork_of info no_nodes hold)
 fork_high info hold next e c h = let l = named_low hold.next info.cells c h in omega (arith, e, l)
 
 own_anew : (known : ℕ → Option Value) (x : Fork) (gs : List Gift) (c : ℕ) → has c (names x.cells) ≡ true → value_given (gift_at c gs) ≡ known_anew known x gs c
 own_anew known x gs c h = sym (ap (λ (b : Bool). if b then value_given (gift_at c gs) else known c) h)
 
 conjunct_known : (next : ℕ) (known : ℕ → Option Value) (info : SiteInfo) (k : ℕ) (goal : Node) (hold : Hold) (gs : List Gift) → HoldKnown next known hold
-    → HoldKnown (hold.next + length info.cells) (known_anew known (fork_of info hold) gs) (conjunct_hold info k goal hold gs)
+    → HoldKnown (hold.next + length info.cells) (known_anew known (fork_of info no_nodes hold) gs) (conjunct_hold info k goal hold gs)
 conjunct_known next known info k goal hold gs w = (
   each_append (IsLow (hold.next + length info.cells) anew) (own_waits k gs (named hold.next info.cells)) (waits_into k info.moves hold.waits)
       (both_known (hold.next + length info.cells) anew (own_waits k gs (named hold.next info.cells))
       (own_below k gs (hold.next + length info.cells) (named hold.next info.cells) (λ c h. named_high hold.next info.cells c h))
-      (own_known_of anew k gs (named hold.next info.cells) (λ c h. own_anew known (fork_of info hold) gs c h)))
+      (own_known_of anew k gs (named hold.next info.cells) (λ c h. own_anew known (fork_of info no_nodes hold) gs c h)))
       (each_filter (IsLow (hold.next + length info.cells) anew) (λ (right : HeldWait). goes_to k (child_for false right.variable info.moves)) hold.waits
       (each_more (IsLow next known) (IsLow (hold.next + length info.cells) anew)
       (λ right h. ((let l = h.0 in let e = w.1.0 in omega (arith, l, e)), h.1 ∙ sym (below right.cell h.0))) hold.waits w.0)),
@@ -226,31 +226,31 @@ conjunct_known next known info k goal hold gs w = (
 )
   where
     anew : ℕ → Option Value
-    anew = known_anew known (fork_of info hold) gs
+    anew = known_anew known (fork_of info no_nodes hold) gs
 
     below : Agree next known anew
-    below = agree_anew next known (fork_of info hold) gs (fork_high info hold next w.1.0)
+    below = agree_anew next known (fork_of info no_nodes hold) gs (fork_high info hold next w.1.0)
 
 behind_pends : (next : ℕ) (known : ℕ → Option Value) (info : SiteInfo) (hold : Hold) (gs : List Gift) → HoldKnown next known hold
-    → Pends next (known_anew known (fork_of info hold) gs) (bound_behind info.cells) (hold_behind info hold gs).waits
+    → Pends next (known_anew known (fork_of info no_nodes hold) gs) (bound_behind info.cells) (hold_behind info hold gs).waits
 behind_pends next known info hold gs w = record {
   own = own_waits 0 gs (named hold.next info.cells);
   low = waits_kept info.moves hold.waits;
   are = refl;
   for_these = own_variables gs hold.next info.cells;
-  own_known = own_known_of anew 0 gs (named hold.next info.cells) (λ c h. own_anew known (fork_of info hold) gs c h);
+  own_known = own_known_of anew 0 gs (named hold.next info.cells) (λ c h. own_anew known (fork_of info no_nodes hold) gs c h);
   low_known =
       each_filter (IsLow next anew) (λ (right : HeldWait). stays (child_for false right.variable info.moves)) hold.waits
-      (low_agree next known anew (agree_anew next known (fork_of info hold) gs (fork_high info hold next w.1.0)) hold.waits w.0);
+      (low_agree next known anew (agree_anew next known (fork_of info no_nodes hold) gs (fork_high info hold next w.1.0)) hold.waits w.0);
 }
   where
     anew : ℕ → Option Value
-    anew = known_anew known (fork_of info hold) gs
+    anew = known_anew known (fork_of info no_nodes hold) gs
 
 behind_begins : (next : ℕ) (known : ℕ → Option Value) (info : SiteInfo) (hold : Hold) (gs hs : List Gift) → HoldKnown next known hold
-    → Begins next (known_anew known (fork_of info hold) hs) (hold_behind info hold gs)
+    → Begins next (known_anew known (fork_of info no_nodes hold) hs) (hold_behind info hold gs)
 behind_begins next known info hold gs hs w =
-    begins_agree next known (known_anew known (fork_of info hold) hs) hold (agree_anew next known (fork_of info hold) hs (fork_high info hold next w.1.0)) w.1
+    begins_agree next known (known_anew known (fork_of info no_nodes hold) hs) hold (agree_anew next known (fork_of info no_nodes hold) hs (fork_high info hold next w.1.0)) w.1
 
 -- goals that meet nobody, waits and signals
 
@@ -355,13 +355,13 @@ module _ (plan : Plan) (program : Program) (call : Procedure → Hold → Branch
     goal_tells goal (unplanned goals p) next known hold w = all_tells [] goals p next known hold (low_pends next known hold.waits w.0) w.1
     goal_tells goal (forked site goals p e) next known hold w =
         let info = info_of (plan site.number) in
-        let x = fork_of info hold in
+        let x = fork_of info goals hold in
         let ks = conjunct_branches plan program call info hold 1 goals [] in
         let gs = conjunct_gifts plan program call info hold 1 goals [] in
         let anew = known_anew known x (all_give ks) in (
           fork_high info hold next w.1.0,
           (
-            each_tells goals p info next known hold w 1 [],
+            each_tells goals goals p info next known hold w 1 [],
             (
               (
                 all_low next anew (hold_behind info hold gs).waits
@@ -395,12 +395,12 @@ module _ (plan : Plan) (program : Program) (call : Procedure → Hold → Branch
         (node_tells first p next known hold (all_low next known hold.waits w, b))
     all_tells pending goals (all_fork site conjuncts outputs category span rest p ps) next known hold w b =
         let info = info_of (plan site.number) in
-        let x = fork_of info hold in
+        let x = fork_of info conjuncts hold in
         let ks = conjunct_branches plan program call info hold 1 conjuncts [] in
         let gs = conjunct_gifts plan program call info hold 1 conjuncts [] in
         let held : HoldKnown next known hold = (all_low next known hold.waits w, b) in
         fork_each next known (λ inner. all_branch plan program call rest inner) (answers_once outputs category) site.number x ks (hold_behind info hold gs) (fork_high info hold next b.0)
-        (each_tells conjuncts p info next known hold held 1 [])
+        (each_tells conjuncts conjuncts p info next known hold held 1 [])
         (all_tells (bound_behind info.cells) rest ps next (known_anew known x (all_give ks)) (hold_behind info hold gs)
         (subst (λ g. Pends next (known_anew known x g) (bound_behind info.cells) (hold_behind info hold gs).waits) (gifts_are conjuncts info hold 1 []) (behind_pends next known info hold gs held))
         (behind_begins next known info hold gs (all_give ks) held))
@@ -424,15 +424,15 @@ module _ (plan : Plan) (program : Program) (call : Procedure → Hold → Branch
         arm_tells next known value symbol (node_branch plan program call body hold) (arms_branch plan program call rest value hold) (node_tells body p next known hold w)
         (arms_tells rest ps value next known hold w)
 
-    each_tells : (goals : Nodes) → EachPrompt plan goals → (info : SiteInfo) (next : ℕ) (known : ℕ → Option Value) (hold : Hold) → HoldKnown next known hold → (k : ℕ) (given : List Gift)
-        → AllTell known (fork_of info hold) given (conjunct_branches plan program call info hold k goals given)
-    each_tells goals each_none info next known hold w k given = tt
-    each_tells goals (each_first first rest p ps) info next known hold w k given = (
+    each_tells : (all goals : Nodes) → EachPrompt plan goals → (info : SiteInfo) (next : ℕ) (known : ℕ → Option Value) (hold : Hold) → HoldKnown next known hold → (k : ℕ) (given : List Gift)
+        → AllTell known (fork_of info all hold) given (conjunct_branches plan program call info hold k goals given)
+    each_tells all goals each_none info next known hold w k given = tt
+    each_tells all goals (each_first first rest p ps) info next known hold w k given = (
       (
         hold.next + length info.cells,
-        node_tells first p (hold.next + length info.cells) (known_anew known (fork_of info hold) given) (conjunct_hold info k first hold given) (conjunct_known next known info k first hold given w),
+        node_tells first p (hold.next + length info.cells) (known_anew known (fork_of info all hold) given) (conjunct_hold info k first hold given) (conjunct_known next known info k first hold given w),
       ),
-      each_tells rest ps info next known hold w (suc k) (given ++ gives (node_branch plan program call first (conjunct_hold info k first hold given))),
+      each_tells all rest ps info next known hold w (suc k) (given ++ gives (node_branch plan program call first (conjunct_hold info k first hold given))),
     )
 
 -- each body uses its forks' cells directly behind them

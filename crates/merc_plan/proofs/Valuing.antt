@@ -8,7 +8,7 @@ use Rattle.merc_meaning.specs.Runs.{Program, ProcedureBody}
 use Rattle.merc_meaning.specs.Programs.{body_of, body_of_mode, program_with}
 use Rattle.merc_core.specs.WellFormed.{most_steps, cells_of, value_in}
 use Rattle.merc_course.specs.Courses.{course}
-use Rattle.merc_par_split.specs.declared.sites.SiteInfo.{SiteInfo}
+use Rattle.merc_rights.specs.declared.sites.SiteInfo.{SiteInfo}
 use Rattle.merc_par_split.specs.Forks.{forks}
 use Rattle.merc_par_split.specs.Split.{nothing, split, all_split}
 use Rattle.merc_par_split.specs.Sites.{sites, all_sites}

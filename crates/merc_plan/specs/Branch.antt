@@ -2,6 +2,7 @@
 -- and each fork its conjuncts' courses.
 use Rattle.std.specs.Prelude.{ℕ, ◌==◌, ◌&&◌, Bool, true, false, List, [], ◌∷◌, ◌++◌, map, Option, Some, None, if◌then◌else◌}
 use Rattle.merc_value.specs.Value.{Value}
+use Rattle.merc_graded_tree.specs.Nodes.{Nodes}
 use Rattle.merc_meaning.specs.Trace.{Env}
 use Rattle.merc_core.specs.Rights.{moved}
 use Rattle.merc_script.specs.declared.cells.Move.{Move}
@@ -33,10 +34,12 @@ pub record NamedCell : Type 0 where
   pub producer : ℕ
   pub consumer : ℕ
 
--- a fork: its own cells, and the rights of the branch that move into conjuncts
+-- a fork: its own cells, the rights of the branch that move into conjuncts, the conjuncts, and what the branch has where it forks
 pub record Fork : Type 0 where
   pub cells : List NamedCell
   pub moves : List Move
+  pub goals : Nodes
+  pub before : Hold
 
 -- how a branch ends before it has ended well: with an exception of this text, because calls nest too deep, or because it waits for what nobody gives
 pub data Halt : Type 0 where

@@ -1,6 +1,7 @@
 -- Worked examples of courses of branches.
 use Rattle.std.specs.Prelude.{◌≡◌, pos, true, [], ◌∷◌, Some, None, refl}
 use Rattle.merc_value.specs.Value.{Value, Int}
+use Rattle.merc_graded_tree.specs.Nodes.{no_nodes}
 use Rattle.merc_plan.specs.Branch.{Hold, Fork, BranchCourse, Over, Breaks, Steps, Finds, Awaits, Gives, Forks, no_branches, more_branches, Raised, Starving, after, each, taken_back, first_alone, choose, negated, closed, names, gift_at, value_given, gifts_through, does_answer, gives}
 
 abbrev one : Value
@@ -91,6 +92,8 @@ abbrev fork : Fork
 fork = record {
   cells = record { cell = 5; variable = 0; producer = 1; consumer = 0 } ∷ [];
   moves = record { cell = 3; child = 1; signal = true } ∷ [];
+  goals = no_nodes;
+  before = has one;
 }
 
 abbrev forks : BranchCourse

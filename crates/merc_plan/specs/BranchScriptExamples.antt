@@ -1,6 +1,7 @@
 -- Worked examples of scripts of branches: of limits, exceptions, forks that do not end well, and of numbers for cells.
 use Rattle.std.specs.Prelude.{◌≡◌, ℕ, pos, true, false, [], ◌∷◌, Some, None, refl}
 use Rattle.merc_value.specs.Value.{Value, Int}
+use Rattle.merc_graded_tree.specs.Nodes.{no_nodes}
 use Rattle.merc_meaning.specs.Trace.{Ends as RunEnds, Tick, Answer, RunDone, RunRaised, LimitPassed}
 use Rattle.merc_script.specs.declared.outcome.Outcome.TheVariants.{Ok as Fine, Raise, Limit, Starved}
 use Rattle.merc_script.specs.Script.{Script, Ends, TickThen, WaitThen, SignalThen, ForkThen, Children, NoChild, Child, Cell}
@@ -53,7 +54,7 @@ cell = record { cell = 0; variable = 1; producer = 1; consumer = 2 }
 
 abbrev forks : BranchCourse → BranchCourse
 forks first =
-    Forks 0 (record { cells = cell ∷ []; moves = [] }) (more_branches first (more_branches (Awaits 0 (Some one) (Steps (Finds nothing Over))) no_branches)) (Steps (Finds nothing Over))
+    Forks 0 (record { cells = cell ∷ []; moves = []; goals = no_nodes; before = nothing }) (more_branches first (more_branches (Awaits 0 (Some one) (Steps (Finds nothing Over))) no_branches)) (Steps (Finds nothing Over))
 
 abbrev gives_one : BranchCourse
 gives_one = Steps (Gives 0 one (Finds nothing Over))

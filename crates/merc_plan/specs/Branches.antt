@@ -13,7 +13,7 @@ use Rattle.merc_meaning.specs.Arithmetic.{comparison_of}
 use Rattle.merc_meaning.specs.Trace.{Trace, Ends, Tick, Answer, Done, Raised as RaisedEnd, TooDeep as TooDeepEnd}
 use Rattle.merc_meaning.specs.Steps.{value_at, with_entry, values_at, made_if, binds, compared, split, operated, raised, entered, brought_back}
 use Rattle.merc_meaning.specs.Runs.{Program, ProcedureBody, answers_once}
-use Rattle.merc_par_split.specs.declared.sites.SiteInfo.{SiteInfo}
+use Rattle.merc_rights.specs.declared.sites.SiteInfo.{SiteInfo}
 use Rattle.merc_plan.specs.Branch.{HeldWait, HeldSignal, Hold, Gift, BranchCourse, BranchCourses, Over, Breaks, Steps, Finds, Awaits, Gives, Forks, no_branches, more_branches, Raised, TooDeep, Starving, after, each, taken_back, first_alone, choose, negated, gives}
 use Rattle.merc_plan.specs.Hold.{holding, with_env, wait_for, without_wait, signal_for, without_signal, fork_of, conjunct_hold, hold_behind}
 
@@ -103,7 +103,7 @@ module _ (plan : Plan) (program : Program) (call : Procedure → Hold → Branch
     goal_branch (Conjunction (Parallel None) goals) hold = all_branch goals hold
     goal_branch (Conjunction (Parallel (Some site)) goals) hold =
         let info = info_of (plan site.number) in
-        Forks site.number (fork_of info hold) (conjunct_branches info hold 1 goals []) (one_answer (hold_behind info hold (conjunct_gifts info hold 1 goals [])))
+        Forks site.number (fork_of info goals hold) (conjunct_branches info hold 1 goals []) (one_answer (hold_behind info hold (conjunct_gifts info hold 1 goals [])))
     goal_branch (Disjunction goals) hold = any_branch goals hold
     goal_branch (Switch variable arms) hold = arms_branch arms (value_at hold.env variable) hold
     goal_branch (Conditional condition then_part else_part) hold =

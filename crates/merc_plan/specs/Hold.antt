@@ -1,14 +1,14 @@
 -- What branches have: the rights with which a conjunct begins, and those that a branch has behind a wait, a signal and a fork.
 use Rattle.std.specs.Prelude.{ℕ, suc, ◌+◌, ◌==◌, ◌&&◌, Bool, true, false, not, List, [], ◌∷◌, ◌++◌, length, map, Option, Some, None, if◌then◌else◌}
 use Rattle.std.specs.List.{filter, flat_map}
-use Rattle.merc_graded_tree.specs.Nodes.{Node}
+use Rattle.merc_graded_tree.specs.Nodes.{Node, Nodes}
 use Rattle.merc_meaning.specs.Trace.{Env}
 use Rattle.merc_script.specs.declared.cells.Move.{Move}
 use Rattle.merc_course.specs.Variables.{node_variables, only}
-use Rattle.merc_par_split.specs.declared.sites.CellInfo.{CellInfo}
-use Rattle.merc_par_split.specs.declared.sites.Moved.{Moved}
-use Rattle.merc_par_split.specs.declared.sites.SiteInfo.{SiteInfo}
-use Rattle.merc_par_split.specs.Rights.{is_sooner}
+use Rattle.merc_rights.specs.declared.sites.CellInfo.{CellInfo}
+use Rattle.merc_rights.specs.declared.sites.Moved.{Moved}
+use Rattle.merc_rights.specs.declared.sites.SiteInfo.{SiteInfo}
+use Rattle.merc_rights.specs.Rights.{is_sooner}
 use Rattle.merc_plan.specs.Branch.{HeldWait, HeldSignal, Hold, NamedCell, Fork, Gift, gift_at, value_given}
 
 -- a branch that holds no rights
@@ -97,8 +97,8 @@ waits_kept moves waits = filter (λ right. stays (child_for false right.variable
 abbrev pub signals_kept : List Moved → List HeldSignal → List HeldSignal
 signals_kept moves signals = filter (λ right. stays (child_for true right.variable moves)) signals
 
-abbrev pub fork_of : SiteInfo → Hold → Fork
-fork_of info hold = record { cells = named hold.next info.cells; moves = moves_from info.moves hold }
+abbrev pub fork_of : SiteInfo → Nodes → Hold → Fork
+fork_of info goals hold = record { cells = named hold.next info.cells; moves = moves_from info.moves hold; goals = goals; before = hold }
 
 -- A conjunct begins with the values of the variables that occur in it, and with its rights: to own cells, and those that move in.
 abbrev pub conjunct_hold : SiteInfo → ℕ → Node → Hold → List Gift → Hold

@@ -5,7 +5,7 @@ use Rattle.merc_value.specs.Value.{Value, Int}
 use Rattle.merc_base.specs.declared.category.Category.TheVariants.{Det}
 use Rattle.merc_graded_tree.specs.declared.basic.BasicGoal.TheVariants.{Test}
 use Rattle.merc_graded_tree.specs.Nodes.{Node, node, Basic}
-use Rattle.merc_par_split.specs.declared.sites.SiteInfo.{SiteInfo}
+use Rattle.merc_rights.specs.declared.sites.SiteInfo.{SiteInfo}
 use Rattle.merc_plan.specs.Branch.{HeldWait, HeldSignal, Hold, NamedCell, Gift}
 use Rattle.merc_plan.specs.Hold.{holding, with_env, wait_for, without_wait, sooner, signal_for, without_signal, named, own_waits, own_signals, child_for, moves_from, waits_into, signals_into, waits_kept, signals_kept, conjunct_hold, hold_behind}
 

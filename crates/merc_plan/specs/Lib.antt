@@ -2,12 +2,14 @@ pub mod Branch
 pub mod Hold
 pub mod Branches
 pub mod BranchScript
+pub mod EachFork
 pub mod Plays
 pub mod Stands
 pub mod PlanLists
 pub mod Counting
 pub mod Laws
 pub mod PlaysExamples
+pub mod EachForkExamples
 pub mod StandsExamples
 pub mod BranchExamples
 pub mod HoldExamples

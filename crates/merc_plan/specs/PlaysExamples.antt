@@ -12,7 +12,7 @@ use Rattle.merc_meaning.specs.Runs.{Program}
 use Rattle.merc_meaning.specs.RunExamples.{graded}
 use Rattle.merc_course.specs.Course.{GoalCourse, Reply, Ends, Tick, Meets, AtWait, AtSignal, no_courses, more_courses, one_answer}
 use Rattle.merc_course.specs.Courses.{node_course, call_course}
-use Rattle.merc_par_split.specs.declared.sites.SiteInfo.{SiteInfo}
+use Rattle.merc_rights.specs.declared.sites.SiteInfo.{SiteInfo}
 use Rattle.merc_par_split.specs.Split.{split}
 use Rattle.merc_par_split.specs.Sites.{sites}
 use Rattle.merc_plan.specs.Branch.{Fork, BranchCourse, Over, Breaks, Steps, Finds, Awaits, Gives, Forks, no_branches, more_branches, Starving}
@@ -76,7 +76,12 @@ program procedure = None
 -- The course of the branch: X has the cell 1 and Y the cell 2, and each conjunct has used its rights where it has answered.
 
 abbrev pub fork : Fork
-fork = record { cells = record { cell = 1; variable = 0; producer = 1; consumer = 2 } ∷ record { cell = 2; variable = 1; producer = 2; consumer = 0 } ∷ []; moves = [] }
+fork = record {
+  cells = record { cell = 1; variable = 0; producer = 1; consumer = 2 } ∷ record { cell = 2; variable = 1; producer = 2; consumer = 0 } ∷ [];
+  moves = [];
+  goals = nodes_of (first ∷ second ∷ []);
+  before = holding [] 1;
+}
 
 abbrev first_branch : BranchCourse
 first_branch = Gives 1 one (Finds (holding (int 1 ∷ []) 3) Over)

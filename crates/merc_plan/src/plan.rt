@@ -4,7 +4,8 @@ ghost use Rattle.merc_plan.specs.PlanLists.{MovesAt};
 
 use merc_base::{NoMemory, Sequence};
 use merc_graded_tree::Site;
-use merc_par_split::{Moved, SiteInfo, Split};
+use merc_par_split::Split;
+use merc_rights::{Moved, SiteInfo};
 use std::alloc::Global;
 use std::marker::Model;
 
@@ -17,7 +18,7 @@ pub struct Plan {
 
 impl Model for Plan {
     ghost use Rattle.std.specs.Prelude.{List};
-    ghost use Rattle.merc_par_split.specs.declared.sites.SiteInfo.{SiteInfo};
+    ghost use Rattle.merc_rights.specs.declared.sites.SiteInfo.{SiteInfo};
 
     ghost Value = { List SiteInfo };
 

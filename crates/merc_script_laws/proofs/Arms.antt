@@ -28,12 +28,13 @@ use Rattle.merc_program_laws.proofs.Lawful.{Fits}
 use Rattle.merc_program_laws.proofs.Calls.{LawfulCalls}
 use Rattle.merc_program_laws.proofs.Graded.{ends_zero}
 use Rattle.merc_core.specs.Rights.{has}
-use Rattle.merc_par_split.specs.Rights.{Right, those, used_in, passed_by, bound_in, wait_at, ahead_of}
+use Rattle.merc_rights.specs.Rights.{Right, those, used_in, passed_by, bound_in, wait_at, ahead_of}
 use Rattle.merc_par_split.specs.Sites.{are_for}
 use Rattle.merc_plan.specs.Branch.{HeldSignal, Hold, Gift, BranchCourse, each as c_each}
 use Rattle.merc_plan.specs.Branches.{Plan, once_if as c_once, node_branch}
 use Rattle.merc_plan.proofs.Flat.{Flat, Done, Answer, Each, Like, each, once_if, events}
 use Rattle.merc_plan.proofs.Judging.{flat, Sure, Keeps}
+use Rattle.merc_plan.proofs.Shown.{Shown}
 use Rattle.merc_plan.proofs.Likes.{like_each, like_once, like_more, like_answers, each_more, each_answer}
 use Rattle.merc_plan.proofs.Flats.{flat_each, sure_each, flat_once, sure_once}
 use Rattle.merc_plan.proofs.Holds.{keeps_each, keeps_once, keeps_end}
@@ -210,7 +211,7 @@ module _ (known : Module) (types i : Instance) (declared : AreGoodTypes known.ty
       abbrev Q : Hold → Env → Type 0
       Q = Ends full here w s later outs hold
 
-      along_inner : Like R (flat (part hold)) trace × Sure (part hold)
+      along_inner : Like R (flat (part hold)) trace × Sure (Shown program) (part hold)
       along_inner =
           goes.along later (used_in n w) (bound_in n s) out b seen here hold full fit (λ x h. (those_in (in_node n) w x h).1) (λ x h. (those_in (among outs) s x h).1) sound there fit_in
           (match_less w (used_in n w) hold full (λ x h. (those_in (in_node n) w x h).0) t) ready_in names
@@ -229,29 +230,29 @@ module _ (known : Module) (types i : Instance) (declared : AreGoodTypes known.ty
           (subst (λ z. Match z e q) (sym is) (match_end (in_node n) later b here w s outs hold e full q t k.0 k.1.0 k.1.1)) g.waits in
           subst (λ z. Like Q z (Answer q Done)) (sym g.is_flat) ((closing e g.hold1 k.0 (subst (λ z. Waits Behind z e g.hold1) is g.waits), (m.same, k.1.1)), tt)
 
-      closed_along : (v : List Right) → v ≡ passed_by later n w → Like Q (flat (ended v hold)) trace × Sure (ended v hold)
+      closed_along : (v : List Right) → v ≡ passed_by later n w → Like Q (flat (ended v hold)) trace × Sure (Shown program) (ended v hold)
       closed_along [] is =
           let a = along_inner in
           (like_more R Q (λ e q k. (closing e e k.0 (subst (λ z. Waits Behind z e e) is (waits_none Behind e)), k.1)) (flat (part hold)) trace a.0, a.1)
       closed_along (r ∷ v) is =
           let a = along_inner in
           let go : Hold → BranchCourse = λ e. tail (r ∷ v) e in
-          let all : Each (λ e. Sure (go e)) (flat (part hold)) = each_more (λ e. (q : Env) × R e q) (λ e. Sure (go e)) (λ e k. (waited (r ∷ v) is e k.0 k.1).is_sure tt) (flat (part hold)) (like_answers R (flat (part hold)) trace a.0) in
-          let all_sure : Sure (c_each go (part hold)) = sure_each go (part hold) all a.1 in
+          let all : Each (λ e. Sure (Shown program) (go e)) (flat (part hold)) = each_more (λ e. (q : Env) × R e q) (λ e. Sure (Shown program) (go e)) (λ e k. (waited (r ∷ v) is e k.0 k.1).is_sure (Shown program) tt) (flat (part hold)) (like_answers R (flat (part hold)) trace a.0) in
+          let all_sure : Sure (Shown program) (c_each go (part hold)) = sure_each (Shown program) go (part hold) all a.1 in
           let alike : Like Q (flat (c_each go (part hold))) trace
-          = subst (λ z. Like Q z trace) (sym (flat_each go (part hold) all a.1))
+          = subst (λ z. Like Q z trace) (sym (flat_each (Shown program) go (part hold) all a.1))
           (subst (λ z. Like Q (each (λ e. flat (go e)) (flat (part hold))) z) (each_answer trace)
           (like_each R Q (λ e. flat (go e)) (λ q. Answer q Done) (λ e q k. one_end (r ∷ v) is e q k) (flat (part hold)) trace a.0)) in
-          with_tail (λ z. Like Q (flat z) trace × Sure z) r v (
-            subst (λ z. Like Q z trace) (sym (flat_once once (c_each go (part hold)) all_sure))
+          with_tail (λ z. Like Q (flat z) trace × Sure (Shown program) z) r v (
+            subst (λ z. Like Q z trace) (sym (flat_once (Shown program) once (c_each go (part hold)) all_sure))
                 (subst (λ z. Like Q (once_if once (flat (c_each go (part hold)))) z) (once_made known types i program calls plan split course n inner full (goes.shaped later (used_in n w) (bound_in n s)) (goes.rated later (used_in n w) (bound_in n s)))
                 (like_once Q once (flat (c_each go (part hold))) trace alike)),
-            sure_once once (c_each go (part hold)) all_sure,
+            sure_once (Shown program) once (c_each go (part hold)) all_sure,
           )
 
       -- an arm along the trace of its goal
       pub arm_along : (whole_outs : List ℕ) → ArmHas (modes_of known.preds) whole_outs n
-          → Like (Ends full here w s later whole_outs hold) (flat (node_branch plan split course (armed n make later w s) hold)) trace × Sure (node_branch plan split course (armed n make later w s) hold)
+          → Like (Ends full here w s later whole_outs hold) (flat (node_branch plan split course (armed n make later w s) hold)) trace × Sure (Shown program) (node_branch plan split course (armed n make later w s) hold)
       arm_along whole_outs has =
           let a = closed_along (passed_by later n w) refl in
           (arm_answers known types i declared program calls lawful n whole_outs out b seen here w s later hold full sound there has (flat (ended (passed_by later n w) hold)) a.0, a.1)

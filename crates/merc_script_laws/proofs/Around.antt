@@ -11,9 +11,9 @@ use Rattle.merc_meaning.specs.Steps.{value_at}
 use Rattle.merc_meaning.specs.Runs.{Program}
 use Rattle.merc_core.specs.Rights.{has, without}
 use Rattle.merc_core.specs.WellFormed.{AreDistinct}
-use Rattle.merc_par_split.specs.Rights.{Right, wait_at, signal_at}
+use Rattle.merc_rights.specs.Rights.{Right, wait_at, signal_at}
 use Rattle.merc_par_split.specs.Sites.{are_for}
-use Rattle.merc_plan.specs.Branch.{Hold, Gift, gift_at, BranchCourse, Over, Breaks, Steps, Finds, Awaits, Gives, Forks, Starving, after, each, first_alone}
+use Rattle.merc_plan.specs.Branch.{Hold, Gift, gift_at, Fork, BranchCourse, BranchCourses, Over, Breaks, Steps, Finds, Awaits, Gives, Forks, Starving, after, each, first_alone}
 use Rattle.merc_plan.specs.Hold.{wait_for}
 use Rattle.merc_plan.specs.Branches.{Plan, awaited, signalled, all_branch}
 use Rattle.merc_plan.proofs.Flat.{Done, Answer}
@@ -111,15 +111,15 @@ module _ (plan : Plan) (program : Program) (call : Procedure → Hold → Branch
   abbrev pub sending : List Right → Hold → BranchCourse
   sending s hold = in_turn (map (signal_at span) s) hold
 
-  pub record Waited (here : Set) (w : List Right) (hold : Hold) (goals : List Node) : Type 0 where
+  pub record Waited (here : Set) (w : List Right) (hold : Hold) (goals : List Node) : Type 1 where
     pub hold1 : Hold
     pub waits : Waits here w hold hold1
     pub is_flat : flat (waiting w goals hold) ≡ flat (in_turn goals hold1)
-    pub is_sure : Sure (in_turn goals hold1) → Sure (waiting w goals hold)
+    pub is_sure : (Holds : Fork → BranchCourses → Type 0) → Sure Holds (in_turn goals hold1) → Sure Holds (waiting w goals hold)
 
   -- waits that are all answered
   pub waits_flat : (w : List Right) (b : Bound) (here : Set) (hold : Hold) (full : Env) (goals : List Node) → Waitable hold → Fit b here w hold → Match w hold full → Waited here w hold goals
-  waits_flat [] b here hold full goals can f t = record { hold1 = hold; waits = waits_none here hold; is_flat = refl; is_sure = λ s. s }
+  waits_flat [] b here hold full goals can f t = record { hold1 = hold; waits = waits_none here hold; is_flat = refl; is_sure = λ Holds s. s }
   waits_flat (r ∷ w) b here hold full goals can f t =
       let e = f.owed r.variable (right_first r w) in
       let a = t.comes r.variable e.0 e.1.0 (right_first r w) e.1.1 in
@@ -130,7 +130,7 @@ module _ (plan : Plan) (program : Program) (call : Procedure → Hold → Branch
       (fit_waited b here (r ∷ w) (r ∷ []) w hold one (cons_parts r w) (cons_one r w) (cons_rest r w) (cons_apart r w f.once) f.once.1 f p.moves)
       (match_waited b here (r ∷ w) (r ∷ []) w hold one (cons_parts r w) (cons_one r w) (cons_rest r w) (cons_apart r w f.once) full f t p) in
       let s = step_owed (λ inner. waiting w goals inner) hold r.variable e.0 a.0 o in
-      record { hold1 = next.hold1; waits = waits_more b here r w hold one next.hold1 p next.waits f.once; is_flat = ap flat s ∙ next.is_flat; is_sure = λ q. subst (λ z. Sure z) (sym s) (next.is_sure q) }
+      record { hold1 = next.hold1; waits = waits_more b here r w hold one next.hold1 p next.waits f.once; is_flat = ap flat s ∙ next.is_flat; is_sure = λ Holds q. subst (λ z. Sure Holds z) (sym s) (next.is_sure Holds q) }
 
   -- rights to wait that are not used stay
   abbrev pub StillWaits : List Right → Hold → List ℕ → List ℕ → Type 0
@@ -178,13 +178,13 @@ module _ (plan : Plan) (program : Program) (call : Procedure → Hold → Branch
   abbrev pub AreHere : List Right → Hold → Type 0
   AreHere s hold = (x : ℕ) → are_for s x ≡ true → (v : Value) × Here hold x v
 
-  signal_sure : (f : Hold → BranchCourse) (hold : Hold) (c : ℕ) (o : Option Value) → (Sure (f (sent hold c))) → Sure (each f (first_alone (signalled hold c o)))
-  signal_sure f hold c None s = tt
-  signal_sure f hold c (Some v) s = subst (λ z. Sure z) (sym (after_over (f (sent hold c)))) s
+  signal_sure : (Holds : Fork → BranchCourses → Type 0) (f : Hold → BranchCourse) (hold : Hold) (c : ℕ) (o : Option Value) → Sure Holds (f (sent hold c)) → Sure Holds (each f (first_alone (signalled hold c o)))
+  signal_sure Holds f hold c None s = tt
+  signal_sure Holds f hold c (Some v) s = subst (λ z. Sure Holds z) (sym (after_over (f (sent hold c)))) s
 
-  pub signals_sure : (s : List Right) (hold : Hold) → Sure (sending s hold)
-  signals_sure [] hold = tt
-  signals_sure (r ∷ s) hold = signal_sure (λ inner. sending s inner) hold (used_cell r.variable hold) (value_at hold.env r.variable) (signals_sure s (sent hold (used_cell r.variable hold)))
+  pub signals_sure : (Holds : Fork → BranchCourses → Type 0) (s : List Right) (hold : Hold) → Sure Holds (sending s hold)
+  signals_sure Holds [] hold = tt
+  signals_sure Holds (r ∷ s) hold = signal_sure Holds (λ inner. sending s inner) hold (used_cell r.variable hold) (value_at hold.env r.variable) (signals_sure Holds s (sent hold (used_cell r.variable hold)))
 
   -- What signals do of these variables: each right is used up.
   pub record Sent (s : List Right) (hold : Hold) (g : List Gift) (hold1 : Hold) (g1 : List Gift) : Type 0 where

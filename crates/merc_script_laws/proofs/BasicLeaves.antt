@@ -29,6 +29,7 @@ use Rattle.merc_plan.specs.Hold.{with_env}
 use Rattle.merc_plan.specs.Branches.{Plan, traced, basic_branch}
 use Rattle.merc_plan.proofs.Flat.{Like, events}
 use Rattle.merc_plan.proofs.Judging.{flat, Sure, Quiet}
+use Rattle.merc_plan.proofs.Shown.{Shown}
 use Rattle.merc_plan.proofs.Holds.{quiet_once}
 use Rattle.merc_script_laws.proofs.Bonds.{Set, Fit, Match, Ends as EndsAlike, Ready, Sound}
 use Rattle.merc_script_laws.proofs.HoldLaw.{is_here}
@@ -191,12 +192,12 @@ module _ (known : Module) (types i : Instance) (declared : AreGoodTypes known.ty
 
     module _ (out : Variables) (b : Bound) (seen : Known) (here : Set) (hold : Hold) (full : Env) (f : Fit b here [] hold) (t : Match [] hold full) where
       abbrev Alike : BasicGoal → Type 0
-      Alike g = Like (EndsAlike full here [] [] nothing outs hold) (flat (basic_branch plan split_program course g hold)) (events (basic_trace program calls g full)) × Sure (basic_branch plan split_program course g hold)
+      Alike g = Like (EndsAlike full here [] [] nothing outs hold) (flat (basic_branch plan split_program course g hold)) (events (basic_trace program calls g full)) × Sure (Shown program) (basic_branch plan split_program course g hold)
 
       -- a goal whose course is a trace
       of_trace : (u w : Trace) → Like (λ e q. EndsAlike full here [] [] nothing outs hold (with_env hold e) q) (events u) (events w)
-          → Like (EndsAlike full here [] [] nothing outs hold) (flat (traced hold u)) (events w) × Sure (traced hold u)
-      of_trace u w h = (traced_like (EndsAlike full here [] [] nothing outs hold) hold u (events w) h, traced_sure hold u)
+          → Like (EndsAlike full here [] [] nothing outs hold) (flat (traced hold u)) (events w) × Sure (Shown program) (traced hold u)
+      of_trace u w h = (traced_like (EndsAlike full here [] [] nothing outs hold) hold u (events w) h, traced_sure (Shown program) hold u)
 
       module _ (g : BasicGoal) (sound : Sound known types i out b seen (whole g)) (fits : Fits known types i out b (in_goal (Basic g)) seen full) (r : Ready here [] b (in_goal (Basic g))) where
         abbrev free : (x : ℕ) → among outs x ≡ true → b x ≡ false
@@ -300,6 +301,6 @@ module _ (known : Module) (types i : Instance) (declared : AreGoodTypes known.ty
     leaf_plain g plain = record {
       along = λ out b seen here hold full sound fits f t r names.
           let a = basic_alike out b seen here hold full f t g plain sound fits r in
-          wrap (EndsAlike full here [] [] nothing outs hold) (answers_once outs category) (basic_branch plan split_program course g hold) (basic_trace program calls g full) a.0 a.1;
+          wrap (Shown program) (EndsAlike full here [] [] nothing outs hold) (answers_once outs category) (basic_branch plan split_program course g hold) (basic_trace program calls g full) a.0 a.1;
       quiet = λ out b seen here hold sound fine f r names. quiet_once hold.next (answers_once outs category) (basic_branch plan split_program course g hold) [] (basic_quiet g plain out b seen hold sound);
     }

@@ -14,9 +14,9 @@ use Rattle.merc_meaning.specs.Trace.{Env}
 use Rattle.merc_meaning.specs.Steps.{value_at}
 use Rattle.merc_core.specs.Rights.{has, moved, without}
 use Rattle.merc_core.specs.WellFormed.{AreDistinct}
-use Rattle.merc_par_split.specs.declared.sites.Moved.{Moved}
-use Rattle.merc_par_split.specs.declared.sites.CellInfo.{CellInfo}
-use Rattle.merc_par_split.specs.Rights.{Right, right_to, users}
+use Rattle.merc_rights.specs.declared.sites.Moved.{Moved}
+use Rattle.merc_rights.specs.declared.sites.CellInfo.{CellInfo}
+use Rattle.merc_rights.specs.Rights.{Right, right_to, users}
 use Rattle.merc_par_split.specs.Sites.{are_for, cells_of, site_info}
 use Rattle.merc_par_split.specs.Split.{moves_in}
 use Rattle.merc_plan.specs.Branch.{HeldWait, HeldSignal, Hold, NamedCell, Gift, gift_at, value_given, names as cell_names}

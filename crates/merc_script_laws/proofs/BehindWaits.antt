@@ -13,9 +13,9 @@ use Rattle.merc_meaning.specs.Steps.{value_at}
 use Rattle.merc_meaning.specs.Runs.{Program}
 use Rattle.merc_core.specs.Rights.{has, without}
 use Rattle.merc_core.specs.WellFormed.{AreDistinct}
-use Rattle.merc_par_split.specs.Rights.{Right, right_to, wait_at}
+use Rattle.merc_rights.specs.Rights.{Right, right_to, wait_at}
 use Rattle.merc_par_split.specs.Sites.{are_for}
-use Rattle.merc_plan.specs.Branch.{HeldWait, Hold, NamedCell, Gift, gift_at, BranchCourse, Breaks, Awaits, Starving, each, first_alone}
+use Rattle.merc_plan.specs.Branch.{HeldWait, Hold, NamedCell, Fork, Gift, gift_at, BranchCourse, BranchCourses, Breaks, Awaits, Starving, each, first_alone}
 use Rattle.merc_plan.specs.Hold.{wait_for, without_wait, own_waits, waits_kept}
 use Rattle.merc_plan.specs.Branches.{Plan, awaited, all_branch}
 use Rattle.merc_plan.proofs.Flat.{Flat, Done, Answer}
@@ -117,17 +117,17 @@ module _ (plan : Plan) (program : Program) (call : Procedure → Hold → Branch
       (rest.0, (rest.1.0 ∙ left_more r w hold.waits can.variables, ap flat (wait_answered (λ inner. waiting plan program call span w [] inner) hold r.variable e.0 v o) ∙ rest.1.1))
 
   -- waits hold no conjuncts
-  pub waits_sure : (w : List Right) (goals : List Node) → ((hold : Hold) → Sure (in_turn plan program call span goals hold)) → (hold : Hold) → Sure (waiting plan program call span w goals hold)
-  waits_sure [] goals h hold = h hold
-  waits_sure (r ∷ w) goals h hold = on (wait_for r.variable hold.waits) (λ inner. waits_sure w goals h inner) where
+  pub waits_sure : (Holds : Fork → BranchCourses → Type 0) (w : List Right) (goals : List Node) → ((hold : Hold) → Sure Holds (in_turn plan program call span goals hold)) → (hold : Hold) → Sure Holds (waiting plan program call span w goals hold)
+  waits_sure Holds [] goals h hold = h hold
+  waits_sure Holds (r ∷ w) goals h hold = on (wait_for r.variable hold.waits) (λ inner. waits_sure Holds w goals h inner) where
     rest : Hold → BranchCourse
     rest inner = waiting plan program call span w goals inner
 
-    with_value : (c : ℕ) (o : Option Value) → ((inner : Hold) → Sure (rest inner)) → Sure (each rest (first_alone (awaited hold r.variable (Some (record { variable = r.variable; cell = c; value = o })))))
+    with_value : (c : ℕ) (o : Option Value) → ((inner : Hold) → Sure Holds (rest inner)) → Sure Holds (each rest (first_alone (awaited hold r.variable (Some (record { variable = r.variable; cell = c; value = o })))))
     with_value c None k = tt
-    with_value c (Some v) k = subst (λ t. Sure t) (sym (after_over (rest (taken hold r.variable v)))) (k (taken hold r.variable v))
+    with_value c (Some v) k = subst (λ t. Sure Holds t) (sym (after_over (rest (taken hold r.variable v)))) (k (taken hold r.variable v))
 
-    on : (o : Option HeldWait) → ((inner : Hold) → Sure (rest inner)) → Sure (each rest (first_alone (awaited hold r.variable o)))
+    on : (o : Option HeldWait) → ((inner : Hold) → Sure Holds (rest inner)) → Sure Holds (each rest (first_alone (awaited hold r.variable o)))
     on None k = tt
     on (Some right) k = with_value right.cell right.value k
 
@@ -173,8 +173,8 @@ module _ (plan : Plan) (program : Program) (call : Procedure → Hold → Branch
   same_waits : (outputs : List ℕ) (hold : Hold) → waiting plan program call span (map (right_to 0) outputs) [] hold ≡ output_waits outputs hold
   same_waits outputs hold = ap (λ l. all_branch plan program call (nodes_of l) hold) (same_goals outputs)
 
-  pub behind_sure : (outputs : List ℕ) (hold : Hold) → Sure (output_waits outputs hold)
-  behind_sure outputs hold = subst (λ z. Sure z) (same_waits outputs hold) (waits_sure (map (right_to 0) outputs) [] (λ inner. tt) hold)
+  pub behind_sure : (Holds : Fork → BranchCourses → Type 0) (outputs : List ℕ) (hold : Hold) → Sure Holds (output_waits outputs hold)
+  behind_sure Holds outputs hold = subst (λ z. Sure Holds z) (same_waits outputs hold) (waits_sure Holds (map (right_to 0) outputs) [] (λ inner. tt) hold)
 
   -- A fork of a parallel conjunction with these outputs, into which these rights move, by a branch that has this.
   module _ (outputs : List ℕ) (w s : List Right) (goals : Nodes) (hold : Hold) (given : List Gift) (b : Bound) (here : Set) (fit : Fit b here w hold) (names : Names hold) (distinct : AreDistinct (all_outputs goals))

@@ -12,8 +12,8 @@ use Rattle.merc_program_laws.proofs.Steps.{free_not}
 use Rattle.merc_program_laws.proofs.Values.{among_here, among_there, or_not_left, or_not_right}
 use Rattle.merc_core.specs.Rights.{has}
 use Rattle.merc_core.specs.WellFormed.{AreDistinct}
-use Rattle.merc_par_split.specs.declared.sites.CellInfo.{CellInfo}
-use Rattle.merc_par_split.specs.Rights.{users}
+use Rattle.merc_rights.specs.declared.sites.CellInfo.{CellInfo}
+use Rattle.merc_rights.specs.Rights.{users}
 use Rattle.merc_par_split.specs.Sites.{consumers, cells_of}
 use Rattle.merc_plan.proofs.NumberingLists.{distinct_append}
 use Rattle.merc_plan.proofs.Placing.{BindsOnce, GoalBindsOnce, AllBindOnce, ArmsBindOnce}

@@ -28,14 +28,15 @@ use Rattle.merc_program_laws.proofs.Graded.{Graded}
 use Rattle.merc_program_laws.proofs.TreeCategories.{IsPart}
 use Rattle.merc_core.specs.Rights.{has}
 use Rattle.merc_core.specs.WellFormed.{AreDistinct}
-use Rattle.merc_par_split.specs.Rights.{Right}
+use Rattle.merc_rights.specs.Rights.{Right}
 use Rattle.merc_par_split.specs.Sites.{are_for}
-use Rattle.merc_par_split.specs.declared.sites.SiteInfo.{SiteInfo}
+use Rattle.merc_rights.specs.declared.sites.SiteInfo.{SiteInfo}
 use Rattle.merc_plan.specs.Branch.{HeldWait, HeldSignal, Hold, Gift, gift_at, BranchCourse}
 use Rattle.merc_plan.specs.Hold.{wait_for}
 use Rattle.merc_plan.specs.Branches.{Plan, node_branch}
 use Rattle.merc_plan.proofs.Flat.{Like, events}
 use Rattle.merc_plan.proofs.Judging.{flat, Sure, Keeps, Quiet}
+use Rattle.merc_plan.proofs.Shown.{Shown}
 use Rattle.merc_script_laws.specs.Parallel.{IsParallelTree}
 
 abbrev pub Set : Type 1
@@ -198,7 +199,7 @@ module _ (known : Module) (types i : Instance) where
       pub along : (later : ℕ → Bool) (w s : List Right) (out : Variables) (b : Bound) (seen : Known) (here : Set) (hold : Hold) (full : Env) → fits later w s → AllUsed w (in_node n) → Within s (outputs_of n)
           → Sound out b seen n → Fits known types i out b (in_node n) seen full → Fit b here w hold → Match w hold full → Ready here w b (in_node n) → Names hold → Counted s hold
           → Like (Ends full here w s later (outputs_of n) hold) (flat (node_branch plan split course (make later w s) hold)) (events (node_trace program calls n full))
-          × Sure (node_branch plan split course (make later w s) hold)
+          × Sure (Shown program) (node_branch plan split course (make later w s) hold)
       pub uses : (later : ℕ → Bool) (w s : List Right) (out : Variables) (b : Bound) (seen : Known) (here : Set) (hold : Hold) (rights : ℕ → Bool) (held : List ℕ) (g : List Gift)
           (proper : ℕ → Value → Type 0) → Proper seen n s hold proper → fits later w s → AllUsed w (in_node n)
           → Sound out b seen n → can_fail_of (category_at n) ≡ false → Fine known types i out b (in_node n) seen hold → Fit b here w hold → Ready here w b (in_node n) → Names hold

@@ -35,6 +35,7 @@ use Rattle.merc_plan.specs.Hold.{holding, with_env}
 use Rattle.merc_plan.specs.Branches.{Plan, called as c_called}
 use Rattle.merc_plan.proofs.Flat.{Flat, Like, taken, events}
 use Rattle.merc_plan.proofs.Judging.{flat, Sure, Quiet}
+use Rattle.merc_plan.proofs.Shown.{Shown}
 use Rattle.merc_plan.proofs.Likes.{like_taken}
 use Rattle.merc_plan.proofs.Flats.{flat_taken, sure_taken}
 use Rattle.merc_plan.proofs.Events.{events_taken}
@@ -48,15 +49,15 @@ use Rattle.merc_script_laws.proofs.BasicLeaves.{read, Under, among_not, not_valu
 abbrev pub HeadsAgree : ℕ → Hold → Env → Type 0
 HeadsAgree arity hold full = (x : ℕ) → x < arity → (v : Value) × (Here hold x v × (value_at full x ≡ Some v))
 
--- Given are the module, the traces of calls, and the split trees with the courses of calls.
-module _ (known : Module) (calls : Procedure → Env → Trace) (split_program : Program) (course : Procedure → Hold → BranchCourse) where
+-- Given are the module, the program of the graded trees with the traces of calls, and that of the split trees with the courses of calls.
+module _ (known : Module) (program : Program) (calls : Procedure → Env → Trace) (split_program : Program) (course : Procedure → Hold → BranchCourse) where
   -- A call of a mode that begins with the inputs, of their types, and holds no rights: along its trace, and with no use of rights from before.
   pub record CallGoes (p : Procedure) (declared : PredDecl) (mode : ModeDecl) : Type 0 where
     pub procedure : ProcedureBody
     pub there : split_program p ≡ Some procedure
     pub places : procedure.places ≡ mode.args
     pub along : (i : Instance) (env : Env) (next : ℕ) → Enters known.types i mode.args declared.args env
-        → Like (HeadsAgree (length declared.args)) (flat (course p (holding env next))) (events (calls p env)) × Sure (course p (holding env next))
+        → Like (HeadsAgree (length declared.args)) (flat (course p (holding env next))) (events (calls p env)) × Sure (Shown program) (course p (holding env next))
     pub quiet : (i : Instance) (env : Env) (next : ℕ) → Enters known.types i mode.args declared.args env → Quiet next [] (course p (holding env next))
 
   abbrev pub CallsGo : Type 0
@@ -193,9 +194,9 @@ module _ (known : Module) (types i : Instance) where
 
 -- Given is a program whose calls are lawful and go along.
 module _ (known : Module) (types i : Instance) (program : Program) (calls : Procedure → Env → Trace) (lawful : LawfulCalls known program calls) (split_program : Program) (course : Procedure → Hold → BranchCourse)
-    (go : CallsGo known calls split_program course) where
+    (go : CallsGo known program calls split_program course) where
   module _ (out : Variables) (b : Bound) (outs : List ℕ) (p : Procedure) (args : List ℕ) (found : Found known types i out b outs p args) (here : Set) (hold : Hold) where
-    abbrev goes : CallGoes known calls split_program course p found.declared found.mode
+    abbrev goes : CallGoes known program calls split_program course p found.declared found.mode
     goes = go p found.declared found.mode found.is
 
     abbrev law : LawfulCall known program calls p found.declared found.mode
@@ -209,17 +210,17 @@ module _ (known : Module) (types i : Instance) (program : Program) (calls : Proc
 
     call_alike : (full : Env) → Fit b here [] hold → Match [] hold full → Ready here [] b (among args) → ((x : ℕ) → among outs x ≡ true → among args x ≡ true) → ((x : ℕ) → among outs x ≡ true → b x ≡ false)
         → ((y : ℕ) → among args y ≡ true → is_some (value_at full y) ≡ b y) → EnvTyped known types i full
-        → Like (Ends full here [] [] nothing outs hold) (flat (c_called (course p) (split_program p) args hold)) (events (t_called (calls p) (program p) args full)) × Sure (c_called (course p) (split_program p) args hold)
+        → Like (Ends full here [] [] nothing outs hold) (flat (c_called (course p) (split_program p) args hold)) (events (t_called (calls p) (program p) args full)) × Sure (Shown program) (c_called (course p) (split_program p) args hold)
     call_alike full f t r within free k typed =
-        subst (λ (o : Option ProcedureBody). Like R (flat (c_called (course p) o args hold)) (events (t_called (calls p) (program p) args full)) × Sure (c_called (course p) o args hold)) (sym goes.there)
-        (subst (λ (places : List Arg). Like R (flat (c_taken (back places) (inner_course (entered places args hold.env)))) (events (t_called (calls p) (program p) args full)) × Sure (c_taken (back places) (inner_course (entered places args hold.env)))) (sym goes.places)
-        (subst (λ (env : Env). Like R (flat (c_taken (back mine) (inner_course env))) (events (t_called (calls p) (program p) args full)) × Sure (c_taken (back mine) (inner_course env))) (sym same)
-        (subst (λ (o : Option ProcedureBody). Like R (flat (c_taken (back mine) (inner_course env1))) (events (t_called (calls p) o args full)) × Sure (c_taken (back mine) (inner_course env1))) (sym law.there)
-        (subst (λ (places : List Arg). Like R (flat (c_taken (back mine) (inner_course env1))) (events (t_taken (λ inner. brought_back places args (value_at inner) full) (calls p (entered places args full)))) × Sure (c_taken (back mine) (inner_course env1))) (sym law.places) (
-          subst (λ (z : Flat Hold). Like R z (events (t_taken forth (calls p env1)))) (sym (flat_taken (back mine) (inner_course env1) a.1))
+        subst (λ (o : Option ProcedureBody). Like R (flat (c_called (course p) o args hold)) (events (t_called (calls p) (program p) args full)) × Sure (Shown program) (c_called (course p) o args hold)) (sym goes.there)
+        (subst (λ (places : List Arg). Like R (flat (c_taken (back places) (inner_course (entered places args hold.env)))) (events (t_called (calls p) (program p) args full)) × Sure (Shown program) (c_taken (back places) (inner_course (entered places args hold.env)))) (sym goes.places)
+        (subst (λ (env : Env). Like R (flat (c_taken (back mine) (inner_course env))) (events (t_called (calls p) (program p) args full)) × Sure (Shown program) (c_taken (back mine) (inner_course env))) (sym same)
+        (subst (λ (o : Option ProcedureBody). Like R (flat (c_taken (back mine) (inner_course env1))) (events (t_called (calls p) o args full)) × Sure (Shown program) (c_taken (back mine) (inner_course env1))) (sym law.there)
+        (subst (λ (places : List Arg). Like R (flat (c_taken (back mine) (inner_course env1))) (events (t_taken (λ inner. brought_back places args (value_at inner) full) (calls p (entered places args full)))) × Sure (Shown program) (c_taken (back mine) (inner_course env1))) (sym law.places) (
+          subst (λ (z : Flat Hold). Like R z (events (t_taken forth (calls p env1)))) (sym (flat_taken (Shown program) (back mine) (inner_course env1) a.1))
               (subst (λ (z : Flat Env). Like R (taken (back mine) (flat (inner_course env1))) z) (sym (events_taken forth (calls p env1)))
               (like_taken (HeadsAgree (length found.declared.args)) R (back mine) forth (brings known types i out b outs p args found here hold full f t within free k) (flat (inner_course env1)) (events (calls p env1)) a.0)),
-          sure_taken (back mine) (inner_course env1) a.1,
+          sure_taken (Shown program) (back mine) (inner_course env1) a.1,
         )))))
       where
         R : Hold → Env → Type 0
@@ -237,7 +238,7 @@ module _ (known : Module) (types i : Instance) (program : Program) (calls : Proc
         same : entered found.mode.args args hold.env ≡ env1
         same = entered_same b mine args hold.env full found.good.1 (λ y m h. read here b (among args) hold full f t r y m h)
 
-        a : Like (HeadsAgree (length found.declared.args)) (flat (inner_course env1)) (events (calls p env1)) × Sure (inner_course env1)
+        a : Like (HeadsAgree (length found.declared.args)) (flat (inner_course env1)) (events (calls p env1)) × Sure (Shown program) (inner_course env1)
         a = goes.along (composed i found.typed.0) env1 hold.next (enters known types i out b outs p args found full k typed)
 
     call_quiet : ((y : ℕ) → among args y ≡ true → is_some (value_at hold.env y) ≡ b y) → EnvTyped known types i hold.env → Quiet hold.next [] (c_called (course p) (split_program p) args hold)
@@ -253,7 +254,7 @@ module _ (known : Module) (types i : Instance) (program : Program) (calls : Proc
       along = λ out b seen here hold full sound fits f t r names.
           let found = found_in known types i out b outs p args (slice_get known.preds p.predicate) refl sound.parts.0.0 sound.good.2 in
           let a = call_alike out b outs p args found here hold full f t r sound.good.0 (free_not b outs sound.good.1) (λ y m. fits.bounds y m) fits.typed in
-          wrap (Ends full here [] [] nothing outs hold) (answers_once outs category) (c_called (course p) (split_program p) args hold) (t_called (calls p) (program p) args full) a.0 a.1;
+          wrap (Shown program) (Ends full here [] [] nothing outs hold) (answers_once outs category) (c_called (course p) (split_program p) args hold) (t_called (calls p) (program p) args full) a.0 a.1;
       quiet = λ out b seen here hold sound fine f r names.
           let found = found_in known types i out b outs p args (slice_get known.preds p.predicate) refl sound.parts.0.0 sound.good.2 in
           let fits = hold_fits known types i out b seen (node (Basic (Call p args)) outs category span) here hold fine f r in

@@ -32,6 +32,7 @@ use Rattle.merc_plan.specs.Hold.{holding}
 use Rattle.merc_plan.specs.Branches.{Plan, body_branch, call_branch, node_branch}
 use Rattle.merc_plan.proofs.Flat.{Each, Like, Tick, events}
 use Rattle.merc_plan.proofs.Judging.{flat, Sure, Quiet}
+use Rattle.merc_plan.proofs.Shown.{Shown}
 use Rattle.merc_plan.proofs.Likes.{like_more, like_with}
 use Rattle.merc_script_laws.specs.ScriptLaws.{split_plan, split_program}
 use Rattle.merc_script_laws.proofs.AcceptedSound.{IsSoundProgram, SoundProcedure, sound_body}
@@ -48,10 +49,10 @@ module _ (known : Module) (program : Program) (plan : Plan) (split_trees : Progr
   GoesAt types i calls course n site =
       Goes known types i program calls plan split_trees course n (λ later w s. placed site later w s n) (λ later w s. Planned plan site (planned later w s n))
 
-  -- each goal goes, where calls do
+  -- each goal goes at each depth of calls, where calls do
   abbrev pub AllGo : Type 1
-  AllGo = (types i : Instance) (calls : Procedure → Env → Trace) → LawfulCalls known program calls → (course : Procedure → Hold → BranchCourse) → CallsGo known calls split_trees course
-      → (n : Node) (site : ℕ) → GoesAt types i calls course n site
+  AllGo = (types i : Instance) (depth : ℕ) → LawfulCalls known program (call_trace program depth) → (course : Procedure → Hold → BranchCourse) → CallsGo known program (call_trace program depth) split_trees course
+      → (n : Node) (site : ℕ) → GoesAt types i (call_trace program depth) course n site
 
 -- Given is a program of sound trees, and a goal that is asked behind them.
 module _ (known : Module) (trees : List Node) (sound : IsSoundProgram known trees) (goal : Node) where
@@ -91,7 +92,7 @@ module _ (known : Module) (trees : List Node) (sound : IsSoundProgram known tree
       abbrev Alike : Hold → Env → Type 0
       Alike = Ends env (bound_here (bound_at mode.args) env) [] [] nothing (outputs_of tree) (holding env next)
 
-      body_along : Like Alike (flat inner) (events trace) × Sure inner
+      body_along : Like Alike (flat inner) (events trace) × Sure (Shown program) inner
       body_along =
           goes.along nothing [] [] (is_argument mode.args) (bound_at mode.args) [] (bound_here (bound_at mode.args) env) (holding env next) env at.planned (λ x h. clash h refl) (λ x h. clash h refl)
           (sound_body known (program p) declared mode is i) body_there (alone_fit (bound_at mode.args) env next) (alone_match env next)
@@ -124,22 +125,22 @@ module _ (known : Module) (trees : List Node) (sound : IsSoundProgram known tree
 
     -- a call at one depth more
     one_more : (at : HasSplitBody known.preds trees goal p whole) → ((i : Instance) → GoesAt known program plan split_trees is.body.types i (calls depth) (course depth) tree at.site)
-        → CallGoes known (calls (suc depth)) split_trees (course (suc depth)) p declared mode
+        → CallGoes known program (calls (suc depth)) split_trees (course (suc depth)) p declared mode
     one_more at goes = record {
       procedure = record { places = mode.args; body = split at.site tree };
       there = at.there;
       places = refl;
       along = λ i env next enters.
           subst (λ (o : Option ProcedureBody). Like (HeadsAgree (length declared.args)) (Tick (flat (body_branch plan split_trees (course depth) o (holding env next)))) (events (calls (suc depth) p env))
-          × Sure (body_branch plan split_trees (course depth) o (holding env next))) (sym at.there)
+          × Sure (Shown program) (body_branch plan split_trees (course depth) o (holding env next))) (sym at.there)
           (subst (λ (o : Option ProcedureBody). Like (HeadsAgree (length declared.args)) (flat (inner at i (goes i) env next enters)) (events (body_trace program (calls depth) o env))
-          × Sure (inner at i (goes i) env next enters)) (sym is.there)
+          × Sure (Shown program) (inner at i (goes i) env next enters)) (sym is.there)
           (heads_agree at i (goes i) env next enters is.good.binds_head, (body_along at i (goes i) env next enters).1));
       quiet = λ i env next enters.
           subst (λ (o : Option ProcedureBody). Quiet next [] (body_branch plan split_trees (course depth) o (holding env next))) (sym at.there) (body_quiet at i (goes i) env next enters);
     }
 
-  pub calls_go : AllGo known program plan split_trees → (depth : ℕ) → CallsGo known (calls depth) split_trees (course depth)
+  pub calls_go : AllGo known program plan split_trees → (depth : ℕ) → CallsGo known program (calls depth) split_trees (course depth)
   calls_go go zero p declared mode is =
       let body = sound.procedures p declared mode is in
       let at = split_body known.preds trees goal p (record { places = mode.args; body = body.body.tree }) body.there in
@@ -154,4 +155,4 @@ module _ (known : Module) (trees : List Node) (sound : IsSoundProgram known tree
       let body = sound.procedures p declared mode is in
       let at = split_body known.preds trees goal p (record { places = mode.args; body = body.body.tree }) body.there in
       one_more depth p declared mode body at
-      (λ i. go body.body.types i (calls depth) (sound.lawful depth) (course depth) (calls_go go depth) body.body.tree at.site)
+      (λ i. go body.body.types i depth (sound.lawful depth) (course depth) (calls_go go depth) body.body.tree at.site)

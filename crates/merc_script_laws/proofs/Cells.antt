@@ -1,11 +1,12 @@
 -- The cells of a fork by name, and the rights that move into its conjuncts.
 use Rattle.std.proofs.Common.{◌≡◌, ◌⊎◌, inl, inr, ℕ, suc, ◌+◌, ◌≤◌, ◌<◌, Bool, true, false, not, ◌==◌, ◌&&◌, if◌then◌else◌, nat_eq, List, [], ◌∷◌, ◌++◌, length, map, filter, flat_map, Option, Some, None, refl, ap, sym, subst, ◌∙◌, arith}
+use Rattle.merc_graded_tree.specs.Nodes.{Node, Nodes}
 use Rattle.merc_script.specs.declared.cells.Move.{Move}
 use Rattle.merc_core.specs.Rights.{has, cells_moved, is_kind, moved, moved_to}
 use Rattle.merc_core.specs.WellFormed.{AreDistinct}
-use Rattle.merc_par_split.specs.declared.sites.CellInfo.{CellInfo}
-use Rattle.merc_par_split.specs.declared.sites.Moved.{Moved}
-use Rattle.merc_par_split.specs.declared.sites.SiteInfo.{SiteInfo}
+use Rattle.merc_rights.specs.declared.sites.CellInfo.{CellInfo}
+use Rattle.merc_rights.specs.declared.sites.Moved.{Moved}
+use Rattle.merc_rights.specs.declared.sites.SiteInfo.{SiteInfo}
 use Rattle.merc_plan.specs.Branch.{HeldWait, HeldSignal, Hold, NamedCell, names, Gift, gift_at, value_given}
 use Rattle.merc_plan.specs.Hold.{wait_for, named, own_waits, own_signals, child_for, moves_if, moves_from, goes_to, waits_into, signals_into, stays, fork_of, conjunct_hold}
 use Rattle.merc_plan.proofs.Judging.{makes, uses, signals_to, waits_to}
@@ -230,14 +231,14 @@ module _ (moves : List Moved) (hold : Hold) where
   waits_moved_to k = waits_taken (λ one. nat_eq one.child k && is_kind false one) (goes_to k) (into_false k) (not_into_false k)
 
 -- What a conjunct may signal and wait for are the cells of its rights.
-module _ (info : SiteInfo) (k : ℕ) (goal : Rattle.merc_graded_tree.specs.Nodes.Node) (hold : Hold) (given : List Gift) where
-  pub rights_signal : signals_to k (fork_of info hold) ≡ map (λ (right : HeldSignal). right.cell) (conjunct_hold info k goal hold given).signals
+module _ (info : SiteInfo) (goals : Nodes) (k : ℕ) (goal : Node) (hold : Hold) (given : List Gift) where
+  pub rights_signal : signals_to k (fork_of info goals hold) ≡ map (λ (right : HeldSignal). right.cell) (conjunct_hold info k goal hold given).signals
   rights_signal =
       ap (λ l. makes k (named hold.next info.cells) ++ l) (signals_moved_to info.moves hold k)
       ∙ ap (λ l. l ++ map (λ (right : HeldSignal). right.cell) (signals_into k info.moves hold.signals)) (sym (own_signal_cells k (named hold.next info.cells)))
       ∙ sym (map_both (λ (right : HeldSignal). right.cell) (own_signals k (named hold.next info.cells)) (signals_into k info.moves hold.signals))
 
-  pub rights_wait : waits_to k (fork_of info hold) ≡ map (λ (right : HeldWait). right.cell) (conjunct_hold info k goal hold given).waits
+  pub rights_wait : waits_to k (fork_of info goals hold) ≡ map (λ (right : HeldWait). right.cell) (conjunct_hold info k goal hold given).waits
   rights_wait =
       ap (λ l. uses k (named hold.next info.cells) ++ l) (waits_moved_to info.moves hold k)
       ∙ ap (λ l. l ++ map (λ (right : HeldWait). right.cell) (waits_into k info.moves hold.waits)) (sym (own_wait_cells k given (named hold.next info.cells)))

@@ -34,13 +34,14 @@ use Rattle.merc_program_laws.proofs.Calls.{LawfulCalls}
 use Rattle.merc_program_laws.proofs.Graded.{ends_zero}
 use Rattle.merc_program_laws.proofs.TreeCategories.{IsPart, node_law, outputs_within}
 use Rattle.merc_core.specs.Rights.{has}
-use Rattle.merc_par_split.specs.Rights.{Right, used_in, unused_in, bound_in, around}
+use Rattle.merc_rights.specs.Rights.{Right, used_in, unused_in, bound_in, around}
 use Rattle.merc_par_split.specs.Split.{nothing}
 use Rattle.merc_par_split.specs.Sites.{are_for}
 use Rattle.merc_plan.specs.Branch.{Hold, Gift, BranchCourse, choose as c_choose}
 use Rattle.merc_plan.specs.Branches.{Plan, node_branch}
 use Rattle.merc_plan.proofs.Flat.{Flat, Each, Like, NotDone, choose, events}
 use Rattle.merc_plan.proofs.Judging.{flat, Sure, Keeps, Quiet}
+use Rattle.merc_plan.proofs.Shown.{Shown}
 use Rattle.merc_plan.proofs.Likes.{like_choose, like_more, like_with, like_answers, like_notdone, each_more, each_and}
 use Rattle.merc_plan.proofs.Flats.{flat_choose, sure_choose}
 use Rattle.merc_plan.proofs.Events.{events_choose}
@@ -210,7 +211,7 @@ module _ (known : Module) (types i : Instance) (declared : AreGoodTypes known.ty
           fits_c =
               fits_part known types i out out_c b (in_node c) occurs seen full (λ x h. or_left (in_node c x) (in_node t x || in_node e x) h) (λ x h. or_left (out x) (in_node t x || in_node e x) h) there
 
-          along_c : Like R (flat condition) (events (node_trace program calls c full)) × Sure condition
+          along_c : Like R (flat condition) (events (node_trace program calls c full)) × Sure (Shown program) condition
           along_c =
               gc.along nothing [] [] out_c b seen here hold full fit.0 (λ x h. clash h refl) (λ x h. clash h refl) sound_c fits_c fit_c (match_less w [] hold full (λ x h. clash h refl) m) ready_c names (λ x h. clash h refl)
 
@@ -231,7 +232,7 @@ module _ (known : Module) (types i : Instance) (declared : AreGoodTypes known.ty
               (λ x h. or_right (out x) (in_node c x || in_node e x) (or_left (in_node c x) (in_node e x) h)) (λ x h. or_left (out x) (in_node c x || in_node e x) h)
               (fits_part known types i out out b (with (in_node c) (in_node t)) occurs seen full in_first_two (λ x h. h) there) k.0
 
-          then_along : (d : Hold) (q : Env) → RP d q → Like Q (flat (then_course d)) (events (node_trace program calls t q)) × Sure (then_course d)
+          then_along : (d : Hold) (q : Env) → RP d q → Like Q (flat (then_course d)) (events (node_trace program calls t q)) × Sure (Shown program) (then_course d)
           then_along d q k =
               let a = arm_along known types i declared program calls lawful plan split course t maket fitst gt later w s fit.1.0 out_t b_t seen_t Here_t d sound_t (fit_then b here w nothing outs_c hold d k.0.0 f)
               (ready_then b here w nothing outs_c hold d k.0.0 (in_node t) ready_t) (k.0.0.names names) q (fits_t q k.1) (match_then b here w nothing outs_c hold d k.0.0 full q m k.0.1.0 k.0.1.1)
@@ -240,26 +241,26 @@ module _ (known : Module) (types i : Instance) (declared : AreGoodTypes known.ty
                 a.1,
               )
 
-          else_along : Like Q (flat else_course) (events (node_trace program calls e full)) × Sure else_course
+          else_along : Like Q (flat else_course) (events (node_trace program calls e full)) × Sure (Shown program) else_course
           else_along =
               arm_along known types i declared program calls lawful plan split course e makee fitse ge later w s fit.1.1 out_e b seen here hold sound_e f ready_e names full
               (fits_part known types i out out_e b (in_node e) occurs seen full in_else (λ x h. or_left (out x) (in_node c x || in_node t x) h) there) m counted outs sound.parallel.outputs.2.1
 
           choice_along : Like Q (flat (c_choose then_course else_course condition)) (events (t_choose (λ q. node_trace program calls t q) (node_trace program calls e full) (node_trace program calls c full)))
-              × Sure (c_choose then_course else_course condition)
+              × Sure (Shown program) (c_choose then_course else_course condition)
           choice_along =
               let u : Flat Env = events (node_trace program calls c full) in
-              let all : Each (λ d. Sure (then_course d)) (flat condition) = each_more (λ d. (q : Env) × RP d q) (λ d. Sure (then_course d)) (λ d k. (then_along d k.0 k.1).1) (flat condition) (like_answers RP (flat condition) u alike_c) in (
-                subst (λ z. Like Q z (events (t_choose (λ q. node_trace program calls t q) (node_trace program calls e full) (node_trace program calls c full)))) (sym (flat_choose then_course else_course condition all along_c.1))
+              let all : Each (λ d. Sure (Shown program) (then_course d)) (flat condition) = each_more (λ d. (q : Env) × RP d q) (λ d. Sure (Shown program) (then_course d)) (λ d k. (then_along d k.0 k.1).1) (flat condition) (like_answers RP (flat condition) u alike_c) in (
+                subst (λ z. Like Q z (events (t_choose (λ q. node_trace program calls t q) (node_trace program calls e full) (node_trace program calls c full)))) (sym (flat_choose (Shown program) then_course else_course condition all along_c.1))
                     (subst (λ z. Like Q (choose (λ d. flat (then_course d)) (flat else_course) (flat condition)) z) (sym (events_choose (λ q. node_trace program calls t q) (node_trace program calls e full) (node_trace program calls c full)))
                     (like_choose RP Q (λ d. flat (then_course d)) (λ q. events (node_trace program calls t q)) (λ d q k. (then_along d q k).0) (flat else_course) (events (node_trace program calls e full)) else_along.0 (flat condition) u alike_c)),
-                sure_choose then_course else_course condition all else_along.1 along_c.1,
+                sure_choose (Shown program) then_course else_course condition all else_along.1 along_c.1,
               )
 
-          along_inner : Like Q (flat (node_branch plan split course (node (joined later w s) outs cat span) hold)) (events (node_trace program calls whole full)) × Sure (node_branch plan split course (node (joined later w s) outs cat span) hold)
+          along_inner : Like Q (flat (node_branch plan split course (node (joined later w s) outs cat span) hold)) (events (node_trace program calls whole full)) × Sure (Shown program) (node_branch plan split course (node (joined later w s) outs cat span) hold)
           along_inner =
               let a = choice_along in
-              wrap Q (answers_once outs cat) (c_choose then_course else_course condition) (t_choose (λ q. node_trace program calls t q) (node_trace program calls e full) (node_trace program calls c full)) a.0 a.1
+              wrap (Shown program) Q (answers_once outs cat) (c_choose then_course else_course condition) (t_choose (λ q. node_trace program calls t q) (node_trace program calls e full) (node_trace program calls c full)) a.0 a.1
 
         -- Where what is here is of its types and symbols: the condition is quiet, and behind it is what is known of its answers.
         module _ (fine : Fine known types i out b occurs seen hold) where
@@ -466,7 +467,7 @@ module _ (known : Module) (types i : Instance) (declared : AreGoodTypes known.ty
       ready1 = let d = divides_those (in_node c) w in ready_waited b here w (used_in c w) (unused_in c w) hold hold1 d.parts d.in1 d.in2 d.apart occurs r
 
       along_waited : (full : Env) → Fits known types i out b occurs seen full → Match w hold full → Counted s hold
-          → Like (Ends full Here1 (unused_in c w) s later outs hold1) (flat (node_branch plan split course (inner later w s) hold1)) (events (node_trace program calls whole full)) × Sure (node_branch plan split course (inner later w s) hold1)
+          → Like (Ends full Here1 (unused_in c w) s later outs hold1) (flat (node_branch plan split course (inner later w s) hold1)) (events (node_trace program calls whole full)) × Sure (Shown program) (node_branch plan split course (inner later w s) hold1)
       along_waited full there m counted =
           let d = divides_those (in_node c) w in
           along_inner out b seen sound later (unused_in c w) s Here1 hold1 fit (not_used w) fit1 ready1 (p.moves.names names) full there (match_waited b here w (used_in c w) (unused_in c w) hold hold1 d.parts d.in1 d.in2 d.apart full f m p)
@@ -486,7 +487,7 @@ module _ (known : Module) (types i : Instance) (declared : AreGoodTypes known.ty
     pub goes_if : Goes known types i program calls plan split course whole made due
     goes_if = record {
       along = λ later w s out b seen here hold full fit all within sound there f m r names counted.
-          around_along plan split course (joined later (unused_in c w) s) outs cat span here w (used_in c w) (unused_in c w) s [] s later hold (divides_those (in_node c) w) (divides_second s) names counted (λ x h. clash h refl) b full (events (node_trace program calls whole full)) within
+          around_along plan split course (joined later (unused_in c w) s) outs cat span here w (used_in c w) (unused_in c w) s [] s later hold (divides_those (in_node c) w) (divides_second s) (Shown program) names counted (λ x h. clash h refl) b full (events (node_trace program calls whole full)) within
           (once_same (answers_once outs cat) (goal_trace program calls (Conditional c t e) full)) (waitable hold names) f (those_once (in_node c) w f.once) m
           (λ hold1 p. along_waited later w s out b seen here hold fit sound f r names hold1 p full there m counted) (used_in c w) [] refl refl;
       uses = λ later w s out b seen here hold rights held g proper is_proper fit all sound can fine f r names q.

@@ -15,7 +15,7 @@ use Rattle.merc_meaning.specs.Trace.{Env}
 use Rattle.merc_meaning.specs.Steps.{value_at}
 use Rattle.merc_program_laws.proofs.Values.{Instance}
 use Rattle.merc_program_laws.proofs.Maxima.{then_sure, then_zero, decided, decided_zero, decided_sure}
-use Rattle.merc_par_split.specs.Rights.{Right, those}
+use Rattle.merc_rights.specs.Rights.{Right, those}
 use Rattle.merc_par_split.specs.Sites.{are_for}
 use Rattle.merc_plan.specs.Branch.{HeldSignal, Hold, Gift}
 use Rattle.merc_plan.proofs.Holds.{StillHeld}

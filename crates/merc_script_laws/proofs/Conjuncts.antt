@@ -9,8 +9,8 @@ use Rattle.merc_meaning.specs.Trace.{Env}
 use Rattle.merc_meaning.specs.Steps.{value_at}
 use Rattle.merc_core.specs.Rights.{has}
 use Rattle.merc_core.specs.WellFormed.{AreDistinct}
-use Rattle.merc_par_split.specs.declared.sites.CellInfo.{CellInfo}
-use Rattle.merc_par_split.specs.Rights.{Right, right_to, used_in, users}
+use Rattle.merc_rights.specs.declared.sites.CellInfo.{CellInfo}
+use Rattle.merc_rights.specs.Rights.{Right, right_to, used_in, users}
 use Rattle.merc_par_split.specs.Sites.{count, are_for, consumers, cells_of}
 use Rattle.merc_plan.specs.Branch.{HeldSignal, Hold, NamedCell, Fork, Gift, gift_at, value_given}
 use Rattle.merc_plan.specs.Hold.{child_for, fork_of}
@@ -68,7 +68,7 @@ module _ (goals : Nodes) (outputs : List ℕ) (w s : List Right) (b : Bound) (he
   apart x c o e h = clash (b x) (fit.known x c o e) (free x h)
 
   abbrev pub fork : Fork
-  fork = fork_of (info goals outputs w s hold) hold
+  fork = fork_of (info goals outputs w s hold) goals hold
 
   -- the conjuncts from k on are ns; those before bind left
   pub record At (k : ℕ) (left : List ℕ) (bk : Bound) (ns : Nodes) : Type 0 where
@@ -292,16 +292,16 @@ module _ (goals : Nodes) (outputs : List ℕ) (w s : List Right) (b : Bound) (he
 
     pub rightful_k : ((x : ℕ) → are_for s x ≡ true → length (rights_for x s) ≡ length (signs x hold)) → Rightful wk sk (outputs_of n) (λ c. has c (signals_to k fork)) (waits_to k fork) [] hold_k
     rightful_k counts = record {
-      to_signal = λ x c h i. (subst (λ l. has c l ≡ true) (sym (rights_signal (info goals outputs w s hold) k goal hold given)) (signs_cell hold_k x c i), refl);
+      to_signal = λ x c h i. (subst (λ l. has c l ≡ true) (sym (rights_signal (info goals outputs w s hold) goals k goal hold given)) (signs_cell hold_k x c i), refl);
       counts = λ x h. counts_k counts x (signals_within (suc k) ns outputs s n x h);
-      to_wait = λ x c o h e. subst (λ l. has c l ≡ true) (sym (rights_wait (info goals outputs w s hold) k goal hold given)) (owed_cell hold_k x c o e);
+      to_wait = λ x c o h e. subst (λ l. has c l ≡ true) (sym (rights_wait (info goals outputs w s hold) goals k goal hold given)) (owed_cell hold_k x c o e);
       within = within_k;
-      low = λ c h. listed_k.low c (subst (λ l. has c l ≡ true) (rights_signal (info goals outputs w s hold) k goal hold given) h);
+      low = λ c h. listed_k.low c (subst (λ l. has c l ≡ true) (rights_signal (info goals outputs w s hold) goals k goal hold given) h);
     }
 
     -- each cell that it has to signal is of a variable that it signals
     pub own_right : ((x : ℕ) → are_for s x ≡ true → length (rights_for x s) ≡ length (signs x hold)) → (c : ℕ) → has c (signals_to k fork) ≡ true → (x : ℕ) × ((are_for sk x ≡ true) × (has c (signs x hold_k) ≡ true))
     own_right counts c h =
-        let r = numbered (λ (right : HeldSignal). right.cell) c hold_k.signals (subst (λ l. has c l ≡ true) (rights_signal (info goals outputs w s hold) k goal hold given) h) in
+        let r = numbered (λ (right : HeldSignal). right.cell) c hold_k.signals (subst (λ l. has c l ≡ true) (rights_signal (info goals outputs w s hold) goals k goal hold given) h) in
         let i = member_signs hold_k r.0.variable c r.0 r.1.0 refl r.1.1 in
         (r.0.variable, (is_some_right r.0.variable c (signs r.0.variable hold_k) sk i (counts_k counts r.0.variable (binds_sign r.0.variable c i)), i))

@@ -29,7 +29,7 @@ use Rattle.merc_program_laws.proofs.TreeCategories.{node_law}
 use Rattle.merc_core.specs.Rights.{has}
 use Rattle.merc_core.specs.WellFormed.{AreDistinct}
 use Rattle.merc_par_split.specs.Forks.{forks}
-use Rattle.merc_par_split.specs.Rights.{Right, users}
+use Rattle.merc_rights.specs.Rights.{Right, users}
 use Rattle.merc_par_split.specs.Sites.{are_for, planned, planned_conjuncts}
 use Rattle.merc_par_split.specs.Split.{nothing, placed_conjuncts}
 use Rattle.merc_par_split.proofs.PlannedCounts.{planned_count}
@@ -38,6 +38,7 @@ use Rattle.merc_plan.specs.Hold.{child_for}
 use Rattle.merc_plan.specs.Branches.{Plan, conjunct_gifts}
 use Rattle.merc_plan.proofs.Flat.{Flat, Done, Answer, behind, Det, Answers, Like, events}
 use Rattle.merc_plan.proofs.Judging.{flat, flats, Sure, AllSure, signals_to, Keeps}
+use Rattle.merc_plan.proofs.Shown.{Shown}
 use Rattle.merc_plan.proofs.Likes.{like_det, like_with}
 use Rattle.merc_plan.proofs.Events.{events_each}
 use Rattle.merc_plan.proofs.Holds.{First, keeps_gives, keeps_only}
@@ -136,7 +137,7 @@ module _ (known : Module) (types i : Instance) (declared : AreGoodTypes known.ty
       law_k : Lawful KidLaw (category_at n) (node_trace program calls n fullk)
       law_k = node_law known declared program calls lawful types i n (with outk (in_nodes ns)) bk seenk fullk sound.good sound.graded sound.parts fits_n
 
-      pub kid_along : Like KidLike (flat course_k) trace_k × Sure course_k
+      pub kid_along : Like KidLike (flat course_k) trace_k × Sure (Shown program) course_k
       kid_along = (goes k n (this_one goals outputs w s b here hold distinct free fit ready names_are single fine.exact k left bk n ns a (goal known types i declared program calls plan split course goals outputs w s out b seen here hold distinct free fit ready names_are single fine goes counts at k left bk outk seenk n ns a q sound certain given) (same known types i declared program calls plan split course goals outputs w s out b seen here hold distinct free fit ready names_are single fine goes counts at k left bk outk seenk n ns a q sound certain given) given) at).along nothing (waits known types i declared program calls plan split course goals outputs w s out b seen here hold distinct free fit ready names_are single fine goes counts at k left bk outk seenk n ns a q sound certain given) (signals known types i declared program calls plan split course goals outputs w s out b seen here hold distinct free fit ready names_are single fine goes counts at k left bk outk seenk n ns a q sound certain given) (with outk (in_nodes ns)) bk seenk (kid_here known types i declared program calls plan split course goals outputs w s out b seen here hold distinct free fit ready names_are single fine goes counts at k left bk outk seenk n ns a q sound certain given) hold_here fullk planned_here
           (all_used known types i declared program calls plan split course goals outputs w s out b seen here hold distinct free fit ready names_are single fine goes counts at k left bk outk seenk n ns a q sound certain given) (is_within known types i declared program calls plan split course goals outputs w s out b seen here hold distinct free fit ready names_are single fine goes counts at k left bk outk seenk n ns a q sound certain given) sound fits_n (fit_k goals outputs w s b here hold distinct free fit ready names_are single fine.exact k left bk n ns a (goal known types i declared program calls plan split course goals outputs w s out b seen here hold distinct free fit ready names_are single fine goes counts at k left bk outk seenk n ns a q sound certain given) (same known types i declared program calls plan split course goals outputs w s out b seen here hold distinct free fit ready names_are single fine goes counts at k left bk outk seenk n ns a q sound certain given) given)
           (match_k goals outputs w s b here hold distinct free fit ready names_are single fine.exact k left bk n ns a (goal known types i declared program calls plan split course goals outputs w s out b seen here hold distinct free fit ready names_are single fine goes counts at k left bk outk seenk n ns a q sound certain given) (same known types i declared program calls plan split course goals outputs w s out b seen here hold distinct free fit ready names_are single fine goes counts at k left bk outk seenk n ns a q sound certain given) given full fullk match g.kept g.has_value)
@@ -203,7 +204,7 @@ module _ (known : Module) (types i : Instance) (declared : AreGoodTypes known.ty
             let j = same_number one.producer k z in
             let sign = own_sign goals outputs w s hold k (goal known types i declared program calls plan split course goals outputs w s out b seen here hold distinct free fit ready names_are single fine goes counts at k left bk outk seenk n ns a q sound certain given) given one m j in
             let r = own_right goals outputs w s b here hold distinct free fit ready names_are single fine.exact k left bk n ns a (goal known types i declared program calls plan split course goals outputs w s out b seen here hold distinct free fit ready names_are single fine goes counts at k left bk outk seenk n ns a q sound certain given) (same known types i declared program calls plan split course goals outputs w s out b seen here hold distinct free fit ready names_are single fine goes counts at k left bk outk seenk n ns a q sound certain given) given counts one.cell
-            (subst (λ l. has one.cell l ≡ true) (sym (rights_signal (site known types i declared program calls plan split course goals outputs w s out b seen here hold distinct free fit ready names_are single fine goes counts) k (goal known types i declared program calls plan split course goals outputs w s out b seen here hold distinct free fit ready names_are single fine goes counts at k left bk outk seenk n ns a q sound certain given) hold given)) (signs_cell hold_here one.variable one.cell sign)) in
+            (subst (λ l. has one.cell l ≡ true) (sym (rights_signal (site known types i declared program calls plan split course goals outputs w s out b seen here hold distinct free fit ready names_are single fine goes counts) goals k (goal known types i declared program calls plan split course goals outputs w s out b seen here hold distinct free fit ready names_are single fine goes counts at k left bk outk seenk n ns a q sound certain given) hold given)) (signs_cell hold_here one.variable one.cell sign)) in
             let v = first.1.gave r.0 one.cell r.1.0 r.1.1 in
             let is = (names_k goals outputs w s b here hold distinct free fit ready names_are single fine.exact k left bk n ns a (goal known types i declared program calls plan split course goals outputs w s out b seen here hold distinct free fit ready names_are single fine goes counts at k left bk outk seenk n ns a q sound certain given) (same known types i declared program calls plan split course goals outputs w s out b seen here hold distinct free fit ready names_are single fine goes counts at k left bk outk seenk n ns a q sound certain given) given).apart r.0 one.variable one.cell r.1.1 sign in
             (v.0, (look_past one.cell given (gives course_k) (g.not_yet one m (omega (arith, j))) ∙ v.1.0, ap (value_at p) (sym is) ∙ l.0.0.1.0 r.0 v.0 v.1.1))
@@ -219,7 +220,7 @@ module _ (known : Module) (types i : Instance) (declared : AreGoodTypes known.ty
     pub kids_along : (ns : Nodes) (at k : ℕ) (left : List ℕ) (bk : Bound) (outk : Variables) (seenk : Known) → Stands known types i declared program calls plan split course goals outputs w s out b seen here hold distinct free fit ready names_are single fine goes counts k left bk ns → Sees known types i declared program calls plan split course goals outputs w s out b seen here hold distinct free fit ready names_are single fine goes counts k left bk outk seenk ns
         → AllSound known types i declared outk bk seenk ns → AllCertain known types i declared ns → AllBeside ns → Planned plan at (planned_conjuncts k outputs w s left ns) → (given : List Gift) (fullk : Env) → Going k bk outk seenk ns given fullk
         → (wt : Flat Hold) (Q : Hold → Env → Type 0) → ((end : Env) → Final (conjunct_gifts plan split course (site known types i declared program calls plan split course goals outputs w s out b seen here hold distinct free fit ready names_are single fine goes counts) hold k (placed_conjuncts at k outputs w s left ns) given) end → Like Q wt (Answer end Done))
-        → Like Q (flats (kids known types i declared program calls plan split course goals outputs w s out b seen here hold distinct free fit ready names_are single fine goes counts at k left ns given) wt) (events (all_trace program calls ns fullk)) × AllSure (kids known types i declared program calls plan split course goals outputs w s out b seen here hold distinct free fit ready names_are single fine goes counts at k left ns given)
+        → Like Q (flats (kids known types i declared program calls plan split course goals outputs w s out b seen here hold distinct free fit ready names_are single fine goes counts at k left ns given) wt) (events (all_trace program calls ns fullk)) × AllSure (Shown program) (kids known types i declared program calls plan split course goals outputs w s out b seen here hold distinct free fit ready names_are single fine goes counts at k left ns given)
     kids_along no_nodes at k left bk outk seenk a q sounds certains onces fits given fullk g wt Q end = (
       end fullk (
         g.kept,
@@ -245,7 +246,7 @@ module _ (known : Module) (types i : Instance) (declared : AreGoodTypes known.ty
         let R : Hold → Env → Type 0 = KidBoth at k left bk outk seenk n ns a q sounds.0 certains.0 given fullk g first in
         let P : Hold → Type 0 = KidFirst at k left bk outk seenk n ns a q sounds.0 certains.0 given fullk g first in
         let rest : BranchCourses = kids known types i declared program calls plan split course goals outputs w s out b seen here hold distinct free fit ready names_are single fine goes counts (at + forks n) (suc k) (left ++ outputs_of n) ns (given ++ gives td) in
-        let rec : (e : Hold) (p : Env) → R e p → P e → Answers (flat td) → Like Q (flats rest wt) (events (all_trace program calls ns p)) × AllSure rest = λ e p l f ans.
+        let rec : (e : Hold) (p : Env) → R e p → P e → Answers (flat td) → Like Q (flats rest wt) (events (all_trace program calls ns p)) × AllSure (Shown program) rest = λ e p l f ans.
         kids_along ns (at + forks n) (suc k) (left ++ outputs_of n) (with bk (among (outputs_of n))) (with outk (in_node n)) (handed (category_at n) (known_behind n seenk) seenk)
         (at_next goals outputs w s b here hold distinct free fit ready names_are single fine.exact k left bk n ns a) (sights_next known types i declared goals outputs w s out b seen here hold distinct free fit ready names_are single fine k left bk outk seenk n ns a q sounds.0 certains.0) sounds.1 certains.1 onces.1 more (given ++ gives td) p (going_next at k left bk outk seenk n ns a q sounds.0 certains.0 given fullk g first e p l f ans) wt Q end in (
           subst (λ z. Like Q (behind (flat td) (flats rest wt)) z) (sym (events_each (λ inner. all_trace program calls ns inner) (node_trace program calls n fullk)))

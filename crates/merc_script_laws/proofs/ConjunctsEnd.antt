@@ -20,10 +20,10 @@ use Rattle.merc_program_laws.proofs.Maxima.{then_zero}
 use Rattle.merc_core.specs.Rights.{has}
 use Rattle.merc_core.specs.WellFormed.{AreDistinct}
 use Rattle.merc_par_split.specs.Forks.{forks}
-use Rattle.merc_par_split.specs.Rights.{Right, users}
+use Rattle.merc_rights.specs.Rights.{Right, users}
 use Rattle.merc_par_split.specs.Sites.{are_for, planned, planned_conjuncts}
 use Rattle.merc_par_split.specs.Split.{nothing, placed_conjuncts}
-use Rattle.merc_par_split.specs.declared.sites.SiteInfo.{SiteInfo}
+use Rattle.merc_rights.specs.declared.sites.SiteInfo.{SiteInfo}
 use Rattle.merc_par_split.proofs.PlannedCounts.{planned_count}
 use Rattle.merc_plan.specs.Branch.{Hold, NamedCell, BranchCourse, Gift, gift_at, gives, all_give}
 use Rattle.merc_plan.specs.Hold.{child_for, conjunct_hold}
@@ -101,7 +101,7 @@ module _ (known : Module) (types i : Instance) (declared : AreGoodTypes known.ty
             f.0,
             λ c h.
                 let r = own_right goals outputs w s b here hold distinct free fit ready names_are single fine.exact k left bk n ns a (goal known types i declared program calls plan split course goals outputs w s out b seen here hold distinct free fit ready names_are single fine goes counts at k left bk outk seenk n ns a q sounds.0 certains.0 given) (same known types i declared program calls plan split course goals outputs w s out b seen here hold distinct free fit ready names_are single fine goes counts at k left bk outk seenk n ns a q sounds.0 certains.0 given) given counts c
-                (subst (λ l. has c l ≡ true) (sym (rights_signal (site known types i declared program calls plan split course goals outputs w s out b seen here hold distinct free fit ready names_are single fine goes counts) k (goal known types i declared program calls plan split course goals outputs w s out b seen here hold distinct free fit ready names_are single fine goes counts at k left bk outk seenk n ns a q sounds.0 certains.0 given) hold given)) (signs_cell (kid_hold known types i declared program calls plan split course goals outputs w s out b seen here hold distinct free fit ready names_are single fine goes counts at k left bk outk seenk n ns a q sounds.0 certains.0 given) x c h)) in
+                (subst (λ l. has c l ≡ true) (sym (rights_signal (site known types i declared program calls plan split course goals outputs w s out b seen here hold distinct free fit ready names_are single fine goes counts) goals k (goal known types i declared program calls plan split course goals outputs w s out b seen here hold distinct free fit ready names_are single fine goes counts at k left bk outk seenk n ns a q sounds.0 certains.0 given) hold given)) (signs_cell (kid_hold known types i declared program calls plan split course goals outputs w s out b seen here hold distinct free fit ready names_are single fine goes counts at k left bk outk seenk n ns a q sounds.0 certains.0 given) x c h)) in
                 let is = (names_k goals outputs w s b here hold distinct free fit ready names_are single fine.exact k left bk n ns a (goal known types i declared program calls plan split course goals outputs w s out b seen here hold distinct free fit ready names_are single fine goes counts at k left bk outk seenk n ns a q sounds.0 certains.0 given) (same known types i declared program calls plan split course goals outputs w s out b seen here hold distinct free fit ready names_are single fine goes counts at k left bk outk seenk n ns a q sounds.0 certains.0 given) given).apart r.0 x c r.1.1 h in
                 let v = u.gave x c (subst (λ z. are_for (signals known types i declared program calls plan split course goals outputs w s out b seen here hold distinct free fit ready names_are single fine goes counts at k left bk outk seenk n ns a q sounds.0 certains.0 given) z ≡ true) is r.1.0) h in
                 v.1.0 ∙ ap (λ z. Some (Some z)) (same_some (sym v.1.1 ∙ f.1)),

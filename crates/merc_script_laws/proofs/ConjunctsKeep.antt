@@ -24,13 +24,13 @@ use Rattle.merc_program_laws.proofs.Values.{Instance}
 use Rattle.merc_core.specs.Rights.{has}
 use Rattle.merc_core.specs.WellFormed.{AreDistinct}
 use Rattle.merc_par_split.specs.Forks.{forks}
-use Rattle.merc_par_split.specs.Rights.{Right, used_in, users}
+use Rattle.merc_rights.specs.Rights.{Right, used_in, users}
 use Rattle.merc_par_split.specs.Sites.{are_for, planned, planned_conjuncts}
 use Rattle.merc_par_split.specs.Split.{nothing, placed, placed_conjuncts}
-use Rattle.merc_par_split.specs.declared.sites.SiteInfo.{SiteInfo}
+use Rattle.merc_rights.specs.declared.sites.SiteInfo.{SiteInfo}
 use Rattle.merc_par_split.proofs.PlannedCounts.{planned_count}
 use Rattle.merc_plan.specs.Branch.{Hold, NamedCell, BranchCourse, BranchCourses, names, Gift, gift_at, gives}
-use Rattle.merc_plan.specs.Hold.{child_for}
+use Rattle.merc_plan.specs.Hold.{child_for, fork_of}
 use Rattle.merc_plan.specs.Branches.{Plan, node_branch, conjunct_branches}
 use Rattle.merc_plan.proofs.Judging.{signals_to, waits_to, Whole, Keeps, AllKeep}
 use Rattle.merc_plan.proofs.Holds.{keeps_end, keeps_weaker, gives_proper}
@@ -238,19 +238,19 @@ module _ (known : Module) (types i : Instance) (declared : AreGoodTypes known.ty
           side (inr z) = is_proper x c v (signal_child outputs w s goals x k z.0).0 z.1 t behind
 
     -- each conjunct, whatever those to its left gave
-    pub kids_keep : (parent : ℕ → Value → Type 0)
+    pub kids_keep : (forked : Nodes) (parent : ℕ → Value → Type 0)
         → ((x c : ℕ) (v : Value) → are_for s x ≡ true → has c (signs x hold) ≡ true → HasType known.types v (replaced i (types x))
         → (Nonzero (conjunction_category (categories (list_of goals))) → (sy : Symbol) → known_of (known_behind_all goals seen) x ≡ Some sy → (vs : Values) × (fields sy v ≡ Some vs)) → parent c v)
         → (ns : Nodes) (at k : ℕ) (left : List ℕ) (bk : Bound) (outk : Variables) (seenk : Known) → Stands k left bk ns → Sees k left bk outk seenk ns → AllSound known types i declared outk bk seenk ns → AllCertain known types i declared ns
-        → Planned plan at (planned_conjuncts k outputs w s left ns) → (given : List Gift) → Proper k seenk given → AllKeep parent (fork goals outputs w s b here hold distinct free fit ready names_are single fine.exact) k (kids at k left ns given)
-    kids_keep parent is_proper no_nodes at k left bk outk seenk a q sounds certains fits given proper = tt
-    kids_keep parent is_proper (more_nodes n ns) at k left bk outk seenk a q sounds certains fits given proper =
+        → Planned plan at (planned_conjuncts k outputs w s left ns) → (given : List Gift) → Proper k seenk given → AllKeep parent (fork_of site forked hold) k (kids at k left ns given)
+    kids_keep forked parent is_proper no_nodes at k left bk outk seenk a q sounds certains fits given proper = tt
+    kids_keep forked parent is_proper (more_nodes n ns) at k left bk outk seenk a q sounds certains fits given proper =
         let wn = waits at k left bk outk seenk n ns a q sounds.0 certains.0 given in
         let sn = signals at k left bk outk seenk n ns a q sounds.0 certains.0 given in
         let first = planned_left plan at (planned nothing wn sn n) (planned_conjuncts (suc k) outputs w s (left ++ outputs_of n) ns) fits in
         let rest = planned_right plan at (forks n) (planned nothing wn sn n) (planned_conjuncts (suc k) outputs w s (left ++ outputs_of n) ns) (planned_count n nothing wn sn) fits in (
           kid_whole at k left bk outk seenk n ns a q sounds.0 certains.0 given proper first parent (proper_parent at k left bk outk seenk n ns a q sounds.0 certains.0 given proper first parent is_proper sounds.1 certains.1),
-          kids_keep parent is_proper ns (at + forks n) (suc k) (left ++ outputs_of n) (with bk (among (outputs_of n))) (with outk (in_node n)) (handed (category_at n) (known_behind n seenk) seenk)
+          kids_keep forked parent is_proper ns (at + forks n) (suc k) (left ++ outputs_of n) (with bk (among (outputs_of n))) (with outk (in_node n)) (handed (category_at n) (known_behind n seenk) seenk)
               (at_next goals outputs w s b here hold distinct free fit ready names_are single fine.exact k left bk n ns a)
               (sights_next known types i declared goals outputs w s out b seen here hold distinct free fit ready names_are single fine k left bk outk seenk n ns a q sounds.0 certains.0) sounds.1 certains.1 rest
               (given ++ gives (kid at k left bk outk seenk n ns a q sounds.0 certains.0 given)) (proper_next at k left bk outk seenk n ns a q sounds.0 certains.0 given proper first),

@@ -9,10 +9,10 @@ use Rattle.merc_script.specs.declared.cells.Move.{Move}
 use Rattle.merc_core.specs.Rights.{has, moved}
 use Rattle.merc_core.specs.WellFormed.{AreDistinct}
 use Rattle.merc_par_split.specs.Forks.{forks}
-use Rattle.merc_par_split.specs.declared.sites.CellInfo.{CellInfo}
-use Rattle.merc_par_split.specs.declared.sites.Moved.{Moved}
-use Rattle.merc_par_split.specs.declared.sites.SiteInfo.{SiteInfo}
-use Rattle.merc_par_split.specs.Rights.{Right}
+use Rattle.merc_rights.specs.declared.sites.CellInfo.{CellInfo}
+use Rattle.merc_rights.specs.declared.sites.Moved.{Moved}
+use Rattle.merc_rights.specs.declared.sites.SiteInfo.{SiteInfo}
+use Rattle.merc_rights.specs.Rights.{Right}
 use Rattle.merc_par_split.specs.Sites.{count, signal_moves, wait_moves}
 use Rattle.merc_par_split.specs.Split.{placed_conjuncts}
 use Rattle.merc_plan.specs.Branch.{HeldWait, HeldSignal, Hold, NamedCell, Fork, names, Gift, BranchCourse}
@@ -57,12 +57,12 @@ move_of moves hold m h = on (member_either m signals waits h) where
       let k = one_move false r.0.cell (child_for false r.0.variable moves) m r.1.1 in
       inr (r.0, (r.1.0, (k.0, (k.1.0, k.1.1))))
 
-module _ (goals : Nodes) (outputs : List ℕ) (w s : List Right) (hold : Hold) (names_are : Names hold) where
+module _ (goals forked : Nodes) (outputs : List ℕ) (w s : List Right) (hold : Hold) (names_are : Names hold) where
   abbrev here_moves : List Moved
   here_moves = (info goals outputs w s hold).moves
 
   abbrev here_fork : Fork
-  here_fork = fork_of (info goals outputs w s hold) hold
+  here_fork = fork_of (info goals outputs w s hold) forked hold
 
   in_range : (k : ℕ) (n : Node) → nth 1 k goals ≡ Some n → (1 ≤ k) × (k ≤ count goals)
   in_range k n p = let l = nth_low 1 k n goals p in let h = nth_high 1 k n goals p in (l, omega (arith, h))
@@ -145,8 +145,8 @@ no_last (r ∷ rs) = no_last rs
 nothing_moves : (hold : Hold) → moves_from [] hold ≡ []
 nothing_moves hold = ap (λ l. l ++ flat_map (λ (right : HeldWait). moves_if false right.cell None) hold.waits) (no_first hold.signals) ∙ no_last hold.waits
 
-pub no_moves : (goals : Nodes) (outputs : List ℕ) (hold : Hold) → (fork_of (info goals outputs [] [] hold) hold).moves ≡ []
-no_moves goals outputs hold = ap (λ l. moves_from (l ++ wait_moves [] goals) hold) (no_signal_moves 1 goals) ∙ nothing_moves hold
+pub no_moves : (goals forked : Nodes) (outputs : List ℕ) (hold : Hold) → (fork_of (info goals outputs [] [] hold) forked hold).moves ≡ []
+no_moves goals forked outputs hold = ap (λ l. moves_from (l ++ wait_moves [] goals) hold) (no_signal_moves 1 goals) ∙ nothing_moves hold
 
 -- as many branches as conjuncts
 pub branch_count : (plan : Plan) (split : Program) (course : Procedure → Hold → BranchCourse) (site : SiteInfo) (hold : Hold) (outputs : List ℕ) (w s : List Right) (ns : Nodes) (at k : ℕ) (left : List ℕ) (given : List Gift)

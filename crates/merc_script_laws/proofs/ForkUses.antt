@@ -28,14 +28,15 @@ use Rattle.merc_program_laws.proofs.Lawful.{Fits}
 use Rattle.merc_program_laws.proofs.Calls.{LawfulCalls}
 use Rattle.merc_core.specs.Rights.{has, moved, without}
 use Rattle.merc_core.specs.WellFormed.{AreDistinct}
-use Rattle.merc_par_split.specs.Rights.{Right, right_to, users}
+use Rattle.merc_rights.specs.Rights.{Right, right_to, users}
 use Rattle.merc_par_split.specs.Sites.{count, are_for, planned_conjuncts}
 use Rattle.merc_par_split.specs.Split.{moves_in, placed_conjuncts}
 use Rattle.merc_plan.specs.Branch.{HeldSignal, Hold, NamedCell, Fork, Forks, BranchCourse, BranchCourses, names, Gift, gift_at, gifts_through, value_given, all_give}
 use Rattle.merc_plan.specs.Hold.{child_for, fork_of}
 use Rattle.merc_plan.specs.Branches.{Plan, conjunct_gifts}
 use Rattle.merc_plan.proofs.Flat.{Done, Answer, Like, events}
-use Rattle.merc_plan.proofs.Judging.{flat, Sure, AllAnswer, uses, SiteFits, OwnFits, Keeps, Quiet, anything}
+use Rattle.merc_plan.proofs.Judging.{flat, flats, Sure, AllAnswer, uses, SiteFits, OwnFits, Keeps, Quiet, anything}
+use Rattle.merc_plan.proofs.Shown.{Shown}
 use Rattle.merc_plan.proofs.Sets.{clash, tell, or_left, or_right, look_past, look_same, gifts_in, gifts_out}
 use Rattle.merc_script_laws.specs.Parallel.{all_outputs, most_conjuncts}
 use Rattle.merc_script_laws.proofs.Bonds.{Set, Here, signs, rights_for, Within, Fit, Match, Names, Ready, Ends, After, Used, Rightful, Planned}
@@ -51,6 +52,7 @@ use Rattle.merc_script_laws.proofs.SiteMoves.{child_signal, signal_child}
 use Rattle.merc_script_laws.proofs.Kids.{info, cells, own, fact_of, signs_member, member_signs}
 use Rattle.merc_script_laws.proofs.Conjuncts.{at_first}
 use Rattle.merc_script_laws.proofs.Sights.{FineFor, Nonzero, AllSound, AllCertain, sights_first, none_proper}
+use Rattle.merc_script_laws.proofs.ForkShows.{AtDepth, fork_shown}
 use Rattle.merc_script_laws.proofs.ForkSite.{site_fits, own_site, no_moves, branch_count}
 use Rattle.merc_script_laws.proofs.ConjunctsKeep.{EachGoes, kids, kids_keep}
 use Rattle.merc_script_laws.proofs.ConjunctsAlong.{Going, Final, kids_along}
@@ -79,11 +81,14 @@ module _ (known : Module) (types i : Instance) (declared : AreGoodTypes known.ty
     abbrev branches : BranchCourses
     branches = kids known types i declared program calls plan split course goals outputs w s out b seen here hold distinct free fit ready names_are single fine goes counts (suc at) 1 [] goals []
 
+    abbrev conjuncts : Nodes
+    conjuncts = placed_conjuncts (suc at) 1 outputs w s [] goals
+
     abbrev given : List Gift
-    given = conjunct_gifts plan split course (info goals outputs w s hold) hold 1 (placed_conjuncts (suc at) 1 outputs w s [] goals) []
+    given = conjunct_gifts plan split course (info goals outputs w s hold) hold 1 conjuncts []
 
     abbrev here_fork : Fork
-    here_fork = fork_of (info goals outputs w s hold) hold
+    here_fork = fork_of (info goals outputs w s hold) conjuncts hold
 
     abbrev waits_for_outputs : BranchCourse
     waits_for_outputs = output_waits plan split course span outputs (forked outputs w s goals hold given)
@@ -92,7 +97,7 @@ module _ (known : Module) (types i : Instance) (declared : AreGoodTypes known.ty
     unit = Forks at here_fork branches waits_for_outputs
 
     -- Along the trace.
-    module _ (besides : AllBeside goals) (full : Env) (match : Match w hold full) (fits : Fits known types i out b (in_nodes goals) seen full) where
+    module _ (deep : AtDepth program calls) (good : GoodNodes (modes_of known.preds) out b goals) (besides : AllBeside goals) (full : Env) (match : Match w hold full) (fits : Fits known types i out b (in_nodes goals) seen full) where
       none_before : (one : NamedCell) → Member one (own goals outputs w s hold) → one.producer < 1 → ⊥
       none_before one m l =
           let f = fact_of goals outputs w s hold one m in
@@ -114,11 +119,20 @@ module _ (known : Module) (types i : Instance) (declared : AreGoodTypes known.ty
           subst (λ z. Like R z (Answer end Done)) (sym led.is_flat)
           ((moves_behind outputs w s goals hold given b here fit names_are distinct covered free_outputs empty led.hold2 led.waits later moving, (news_behind outputs w s goals hold given b here fit names_are distinct covered free_outputs empty end same gives led.hold2 led.waits, f.0)), tt)
 
-      pub unit_along : Like R (flat unit) (events (all_trace program calls goals full)) × Sure unit
+      like_goals : Like (λ (end : Hold) (found : Env). Unit {0}) (flats branches (Answer hold Done)) (events (all_trace program calls goals full))
+      like_goals =
+          (kids_along known types i declared program calls lawful plan split course goals outputs w s out b seen here hold distinct free fit ready names_are single fine goes counts full match goals (suc at) 1 [] b out seen
+          (at_first goals outputs w s b here hold distinct free fit ready names_are single fine.exact) (sights_first known types i declared goals outputs w s out b seen here hold distinct free fit ready names_are single fine) sounds certains besides planned_all [] full start
+          (Answer hold Done) (λ (end : Hold) (found : Env). Unit {0}) (λ end f. (tt, tt))).0
+
+      shown : Shown program here_fork branches
+      shown = fork_shown known types i goals out b seen here w hold full fits fit match ready names_are program calls deep good (suc at) outputs w s (info goals outputs w s hold) branches like_goals
+
+      pub unit_along : Like R (flat unit) (events (all_trace program calls goals full)) × Sure (Shown program) unit
       unit_along =
           let k = kids_along known types i declared program calls lawful plan split course goals outputs w s out b seen here hold distinct free fit ready names_are single fine goes counts full match goals (suc at) 1 [] b out seen
           (at_first goals outputs w s b here hold distinct free fit ready names_are single fine.exact) (sights_first known types i declared goals outputs w s out b seen here hold distinct free fit ready names_are single fine) sounds certains besides planned_all [] full start (flat waits_for_outputs) R (λ end f. at_end end f) in
-          (k.0, (k.1, λ a. behind_sure plan split course span outputs (forked outputs w s goals hold given)))
+          (k.0, (shown, (k.1, λ a. behind_sure plan split course span (Shown program) outputs (forked outputs w s goals hold given))))
 
     -- Behind it, where the conjuncts have all answered.
     module _ (good : GoodNodes (modes_of known.preds) out b goals) (binds : Binds out (in_nodes goals) b outputs (behind_nodes b goals)) (occur : (x : ℕ) → among outputs x ≡ true → in_nodes goals x ≡ true) (ans : AllAnswer branches) (hold2 : Hold) (p : Waits here (map (right_to 0) outputs) (forked outputs w s goals hold given) hold2) where
@@ -126,7 +140,7 @@ module _ (known : Module) (types i : Instance) (declared : AreGoodTypes known.ty
       gave_all = all_give branches
 
       is_given : (c : ℕ) → gift_at c given ≡ gift_at c gave_all
-      is_given c = ap (λ z. gift_at c z) (gifts_all plan split course (info goals outputs w s hold) hold (placed_conjuncts (suc at) 1 outputs w s [] goals) 1 [])
+      is_given c = ap (λ z. gift_at c z) (gifts_all plan split course (info goals outputs w s hold) hold conjuncts 1 [])
 
       nonzero : Nonzero (conjunction_category (categories (list_of goals)))
       nonzero = kids_some known types i declared program calls plan split course goals outputs w s out b seen here hold distinct free fit ready names_are single fine goes counts goals (suc at) 1 [] b out seen (at_first goals outputs w s b here hold distinct free fit ready names_are single fine.exact) (sights_first known types i declared goals outputs w s out b seen here hold distinct free fit ready names_are single fine) sounds certains planned_all [] (none_proper known types i declared goals outputs w s out b seen here hold distinct free fit ready names_are single fine 1 seen) ans
@@ -244,9 +258,9 @@ module _ (known : Module) (types i : Instance) (declared : AreGoodTypes known.ty
         → (never : Type 0) → (never → most_of (conjunction_category (categories (list_of goals))) ≡ Zero)
         → Keeps proper (Used (After known types i out b outputs (in_nodes goals) seen (known_behind_all goals seen) hold) never here w s later outputs hold held g) rights held g unit
     unit_keeps good binds occur rights held g proper q is_proper never unreached = (
-      subst (λ z. SiteFits z rights g held here_fork) (sym (branch_count plan split course (info goals outputs w s hold) hold outputs w s goals (suc at) 1 [] [])) (site_fits goals outputs w s hold names_are some few outputs rights held g q),
+      subst (λ z. SiteFits z rights g held here_fork) (sym (branch_count plan split course (info goals outputs w s hold) hold outputs w s goals (suc at) 1 [] [])) (site_fits goals conjuncts outputs w s hold names_are some few outputs rights held g q),
       (
-        kids_keep known types i declared program calls plan split course goals outputs w s out b seen here hold distinct free fit ready names_are single fine goes counts proper is_proper goals (suc at) 1 [] b out seen (at_first goals outputs w s b here hold distinct free fit ready names_are single fine.exact) (sights_first known types i declared goals outputs w s out b seen here hold distinct free fit ready names_are single fine) sounds certains planned_all [] (none_proper known types i declared goals outputs w s out b seen here hold distinct free fit ready names_are single fine 1 seen),
+        kids_keep known types i declared program calls plan split course goals outputs w s out b seen here hold distinct free fit ready names_are single fine goes counts conjuncts proper is_proper goals (suc at) 1 [] b out seen (at_first goals outputs w s b here hold distinct free fit ready names_are single fine.exact) (sights_first known types i declared goals outputs w s out b seen here hold distinct free fit ready names_are single fine) sounds certains planned_all [] (none_proper known types i declared goals outputs w s out b seen here hold distinct free fit ready names_are single fine 1 seen),
         λ ans. behind_keeps plan split course span outputs w s goals hold given b here fit names_are distinct covered free_outputs empty proper
             (Used (After known types i out b outputs (in_nodes goals) seen (known_behind_all goals seen) hold) never here w s later outputs hold held g) rights (without (names (own goals outputs w s hold)) (without (moved false here_fork.moves) held))
             (g ++ gifts_through (moved true here_fork.moves) (all_give branches))
@@ -257,11 +271,11 @@ module _ (known : Module) (types i : Instance) (declared : AreGoodTypes known.ty
     -- Where nothing moves it is quiet.
     pub unit_quiet : w ≡ [] → s ≡ [] → Quiet hold.next [] unit
     unit_quiet ew es = (
-      subst (λ v. (fork_of (info goals outputs v s hold) hold).moves ≡ []) (sym ew) (subst (λ z. (fork_of (info goals outputs [] z hold) hold).moves ≡ []) (sym es) (no_moves goals outputs hold)),
+      subst (λ v. (fork_of (info goals outputs v s hold) conjuncts hold).moves ≡ []) (sym ew) (subst (λ z. (fork_of (info goals outputs [] z hold) conjuncts hold).moves ≡ []) (sym es) (no_moves goals conjuncts outputs hold)),
       (
-        subst (λ z. OwnFits z hold.next here_fork) (sym (branch_count plan split course (info goals outputs w s hold) hold outputs w s goals (suc at) 1 [] [])) (own_site goals outputs w s hold names_are some few),
+        subst (λ z. OwnFits z hold.next here_fork) (sym (branch_count plan split course (info goals outputs w s hold) hold outputs w s goals (suc at) 1 [] [])) (own_site goals conjuncts outputs w s hold names_are some few),
         (
-          kids_keep known types i declared program calls plan split course goals outputs w s out b seen here hold distinct free fit ready names_are single fine goes counts anything (λ x c v h j t f. tt) goals (suc at) 1 [] b out seen (at_first goals outputs w s b here hold distinct free fit ready names_are single fine.exact) (sights_first known types i declared goals outputs w s out b seen here hold distinct free fit ready names_are single fine) sounds certains planned_all [] (none_proper known types i declared goals outputs w s out b seen here hold distinct free fit ready names_are single fine 1 seen),
+          kids_keep known types i declared program calls plan split course goals outputs w s out b seen here hold distinct free fit ready names_are single fine goes counts conjuncts anything (λ x c v h j t f. tt) goals (suc at) 1 [] b out seen (at_first goals outputs w s b here hold distinct free fit ready names_are single fine.exact) (sights_first known types i declared goals outputs w s out b seen here hold distinct free fit ready names_are single fine) sounds certains planned_all [] (none_proper known types i declared goals outputs w s out b seen here hold distinct free fit ready names_are single fine 1 seen),
           λ ans. behind_quiet plan split course span outputs w s goals hold given b here fit names_are distinct covered free_outputs empty (without (names (own goals outputs w s hold)) []),
         ),
       ),

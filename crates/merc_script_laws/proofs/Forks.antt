@@ -34,8 +34,8 @@ use Rattle.merc_program_laws.proofs.Graded.{GradedAll}
 use Rattle.merc_program_laws.proofs.TreeCategories.{IsPart}
 use Rattle.merc_core.specs.Rights.{has}
 use Rattle.merc_core.specs.WellFormed.{AreDistinct}
-use Rattle.merc_par_split.specs.declared.sites.SiteInfo.{SiteInfo}
-use Rattle.merc_par_split.specs.Rights.{Right, right_to, those, wait_at, between}
+use Rattle.merc_rights.specs.declared.sites.SiteInfo.{SiteInfo}
+use Rattle.merc_rights.specs.Rights.{Right, right_to, those, wait_at, between}
 use Rattle.merc_par_split.specs.Sites.{are_for, site_info, planned_goal, planned_conjuncts}
 use Rattle.merc_par_split.specs.Split.{moves_in, placed_goal, placed_conjuncts}
 use Rattle.merc_plan.specs.Branch.{HeldSignal, Hold, Fork, BranchCourse, BranchCourses, Over, Finds, Forks, Gift, each}
@@ -43,6 +43,7 @@ use Rattle.merc_plan.specs.Hold.{fork_of, hold_behind}
 use Rattle.merc_plan.specs.Branches.{Plan, once_if, info_of, node_branch, conjunct_branches, conjunct_gifts}
 use Rattle.merc_plan.proofs.Flat.{Like, events, once_if as flat_once_if}
 use Rattle.merc_plan.proofs.Judging.{flat, Sure, Keeps, Quiet}
+use Rattle.merc_plan.proofs.Shown.{Shown}
 use Rattle.merc_plan.proofs.Likes.{like_once, like_more}
 use Rattle.merc_plan.proofs.Flats.{flat_once, sure_once}
 use Rattle.merc_plan.proofs.Events.{events_once}
@@ -61,6 +62,7 @@ use Rattle.merc_script_laws.proofs.SiteMoves.{outputs_free, outputs_distinct}
 use Rattle.merc_script_laws.proofs.Sights.{fine_for, fits_for, AllSound, AllCertain}
 use Rattle.merc_script_laws.proofs.ConjunctsKeep.{EachGoes}
 use Rattle.merc_script_laws.proofs.Behind.{empty_fine, empty_fits}
+use Rattle.merc_script_laws.proofs.ForkShows.{AtDepth}
 use Rattle.merc_script_laws.proofs.ForkUses.{unit, unit_along, unit_keeps, unit_quiet}
 
 both_none : (xs ys : List Refusal) → xs ++ ys ≡ [] → (xs ≡ []) × (ys ≡ [])
@@ -131,18 +133,18 @@ module _ (known : Module) (types i : Instance) (declared : AreGoodTypes known.ty
     forking w s = node (Conjunction (Parallel (Some (record { number = at }))) (placed_conjuncts (suc at) 1 outputs w s [] goals)) outputs category span
 
     between_branch : (w s v : List Right) (behind : List Node) (hold : Hold) → node_branch plan split course (between v (forking w s) behind) hold ≡ once_if once (waiting plan split course span v (forking w s ∷ behind) hold)
-    between_branch w s [] [] hold = once_alone once at (fork_of (info_of (plan at)) hold) (conjunct_branches plan split course (info_of (plan at)) hold 1 (placed_conjuncts (suc at) 1 outputs w s [] goals) [])
+    between_branch w s [] [] hold = once_alone once at (fork_of (info_of (plan at)) (placed_conjuncts (suc at) 1 outputs w s [] goals) hold) (conjunct_branches plan split course (info_of (plan at)) hold 1 (placed_conjuncts (suc at) 1 outputs w s [] goals) [])
         (hold_behind (info_of (plan at)) hold (conjunct_gifts plan split course (info_of (plan at)) hold 1 (placed_conjuncts (suc at) 1 outputs w s [] goals) []))
     between_branch w s [] (m ∷ ms) hold = refl
     between_branch w s (r ∷ v) behind hold = refl
 
     abbrev branch_from : List Right → List Right → Option SiteInfo → Hold → BranchCourse
-    branch_from w s o hold = Forks at (fork_of (info_of o) hold) (conjunct_branches plan split course (info_of o) hold 1 (placed_conjuncts (suc at) 1 outputs w s [] goals) [])
+    branch_from w s o hold = Forks at (fork_of (info_of o) (placed_conjuncts (suc at) 1 outputs w s [] goals) hold) (conjunct_branches plan split course (info_of o) hold 1 (placed_conjuncts (suc at) 1 outputs w s [] goals) [])
         (in_turn plan split course span output_goals (hold_behind (info_of o) hold (conjunct_gifts plan split course (info_of o) hold 1 (placed_conjuncts (suc at) 1 outputs w s [] goals) [])))
 
     fork_is : (w s : List Right) (hold : Hold) → plan at ≡ Some (site_info outputs w s goals) → in_turn plan split course span (forking w s ∷ output_goals) hold ≡ branch_from w s (Some (site_info outputs w s goals)) hold
     fork_is w s hold e =
-        goes_behind once (λ inner. in_turn plan split course span output_goals inner) at (fork_of (info_of (plan at)) hold) (conjunct_branches plan split course (info_of (plan at)) hold 1 (placed_conjuncts (suc at) 1 outputs w s [] goals) [])
+        goes_behind once (λ inner. in_turn plan split course span output_goals inner) at (fork_of (info_of (plan at)) (placed_conjuncts (suc at) 1 outputs w s [] goals) hold) (conjunct_branches plan split course (info_of (plan at)) hold 1 (placed_conjuncts (suc at) 1 outputs w s [] goals) [])
         (hold_behind (info_of (plan at)) hold (conjunct_gifts plan split course (info_of (plan at)) hold 1 (placed_conjuncts (suc at) 1 outputs w s [] goals) []))
         ∙ ap (λ (o : Option SiteInfo). branch_from w s o hold) e
 
@@ -201,10 +203,10 @@ module _ (known : Module) (types i : Instance) (declared : AreGoodTypes known.ty
       whole_zero z = capped_zero outputs (conjunction_category (categories (list_of goals))) (sym (ap (λ (c : Option Category). most_of (given c)) sound.graded.0) ∙ z)
 
       -- Along the trace.
-      pub par_along : (later : ℕ → Bool) (w s : List Right) (here : Set) (hold : Hold) (full : Env) → due later w s → Within s outputs → Fits known types i out b (in_node whole) seen full → Fit b here w hold → Match w hold full
+      pub par_along : AtDepth program calls → (later : ℕ → Bool) (w s : List Right) (here : Set) (hold : Hold) (full : Env) → due later w s → Within s outputs → Fits known types i out b (in_node whole) seen full → Fit b here w hold → Match w hold full
           → Ready here w b (in_node whole) → Names hold → Counted s hold
-          → Like (Ends full here w s later outputs hold) (flat (node_branch plan split course (made later w s) hold)) (events (node_trace program calls whole full)) × Sure (node_branch plan split course (made later w s) hold)
-      par_along later w s here hold full p within fits fit match ready names counts =
+          → Like (Ends full here w s later outputs hold) (flat (node_branch plan split course (made later w s) hold)) (events (node_trace program calls whole full)) × Sure (Shown program) (node_branch plan split course (made later w s) hold)
+      par_along deep later w s here hold full p within fits fit match ready names counts =
           let w1 = staying later w in
           let w2 = moving later w in
           let d1 = those_once (λ x. not (moves_in later goals x)) w fit.once in
@@ -220,20 +222,20 @@ module _ (known : Module) (types i : Instance) (declared : AreGoodTypes known.ty
           let counts1 : Counted s hold1 = λ x h. counts x h ∙ ap length (sym (same_signs hold hold1 a.waits.signals x)) in
           let empty1 : (x : ℕ) (v : Value) → among outputs x ≡ true → Here hold1 x v → ⊥ = empty_fits known types i out b whole sound.good seen hold1 w2 full fits match1 in
           let u = unit_along known types i declared program calls lawful plan split course goals outputs w2 s later out b seen here1 hold1 distinct free fit1 ready1 names1 (does_move later w) fine1 goes counts1 covered sound.good.1 empty1 within
-          sound.parallel.few.0 sound.parallel.few.1.0 sounds certains at (next_sites later w s p) span besides.0 full match1 fits in
+          sound.parallel.few.0 sound.parallel.few.1.0 sounds certains at (next_sites later w s p) span deep sound.good.2.0 besides.0 full match1 fits in
           let R : Hold → Env → Type 0 = Ends full here w s later outputs hold in
           let moved : (e : Hold) (f : Env) → Ends full here1 w2 s later outputs hold1 e f → R e f = λ e f k.
           (moves_waited b here w w1 w2 hold hold1 (parts later w) (stay_in later w) (move_in later w) (sides later w) s later outputs e a.waits.moves k.0, k.1) in
           let t = waiting plan split course span w1 (forking w2 s ∷ output_goals) hold in
           let is = fork_is w2 s hold1 (here_site later w s p) in
-          let sure : Sure t = a.is_sure (subst (λ z. Sure z) (sym is) u.1) in
+          let sure : Sure (Shown program) t = a.is_sure (Shown program) (subst (λ z. Sure (Shown program) z) (sym is) u.1) in
           let like : Like R (flat t) (events (all_trace program calls goals full)) = subst (λ z. Like R z (events (all_trace program calls goals full))) (sym (a.is_flat ∙ ap flat is))
           (like_more (Ends full here1 w2 s later outputs hold1) R moved (flat (unit known types i declared program calls lawful plan split course goals outputs w2 s later out b seen here1 hold1 distinct free fit1 ready1 names1 (does_move later w) fine1 goes counts1 covered sound.good.1 empty1 within sound.parallel.few.0 sound.parallel.few.1.0 sounds certains at (next_sites later w s p) span))
           (events (all_trace program calls goals full)) u.0) in
-          subst (λ z. Like R (flat z) (events (node_trace program calls whole full)) × Sure z) (sym (between_branch w2 s w1 output_goals hold)) (
-            subst (λ z. Like R z (events (node_trace program calls whole full))) (sym (flat_once once t sure))
+          subst (λ z. Like R (flat z) (events (node_trace program calls whole full)) × Sure (Shown program) z) (sym (between_branch w2 s w1 output_goals hold)) (
+            subst (λ z. Like R z (events (node_trace program calls whole full))) (sym (flat_once (Shown program) once t sure))
                 (subst (λ z. Like R (flat_once_if once (flat t)) z) (sym (events_once once (all_trace program calls goals full))) (like_once R once (flat t) (events (all_trace program calls goals full)) like)),
-            sure_once once t sure,
+            sure_once (Shown program) once t sure,
           )
 
       -- Up to its first answer.
@@ -325,9 +327,9 @@ module _ (known : Module) (types i : Instance) (declared : AreGoodTypes known.ty
     par_shaped later w s = between_outputs (staying later w) output_goals (forking (moving later w) s)
 
     -- what a parallel conjunction does whose conjuncts go as they should
-    pub goes_par : Goes known types i program calls plan split course whole made due
-    goes_par = record {
-      along = λ later w s out b seen here hold full p all within sound fits fit match ready names counted. par_along out b seen sound later w s here hold full p within fits fit match ready names counted;
+    pub goes_par : AtDepth program calls → Goes known types i program calls plan split course whole made due
+    goes_par deep = record {
+      along = λ later w s out b seen here hold full p all within sound fits fit match ready names counted. par_along out b seen sound deep later w s here hold full p within fits fit match ready names counted;
       uses = λ later w s out b seen here hold rights held g proper is_proper p all sound sure fine fit ready names q. par_uses out b seen sound later w s here hold rights held g proper is_proper p all fine fit ready names q;
       quiet = λ later out b seen here hold p sound fine fit ready names. par_quiet out b seen sound later here hold p fine fit ready names;
       rated = par_rated;

@@ -6,7 +6,7 @@ use Rattle.merc_meaning.specs.Steps.{value_at, with_entry}
 use Rattle.merc_program_laws.proofs.Values.{none_not, same_some, at_same, at_other}
 use Rattle.merc_core.specs.Rights.{has, without}
 use Rattle.merc_core.specs.WellFormed.{AreDistinct}
-use Rattle.merc_par_split.specs.Rights.{Right, is_sooner}
+use Rattle.merc_rights.specs.Rights.{Right, is_sooner}
 use Rattle.merc_par_split.specs.Sites.{are_for}
 use Rattle.merc_plan.specs.Branch.{HeldWait, HeldSignal, Hold}
 use Rattle.merc_plan.specs.Hold.{wait_for, without_wait, sooner, signal_for, without_signal}

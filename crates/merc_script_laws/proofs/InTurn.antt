@@ -37,7 +37,7 @@ use Rattle.merc_program_laws.proofs.Maxima.{then_sure, then_zero, then_is_zero}
 use Rattle.merc_program_laws.proofs.Graded.{GradedAll}
 use Rattle.merc_program_laws.proofs.TreeCategories.{IsPart, node_law, outputs_within, not_in}
 use Rattle.merc_core.specs.Rights.{has}
-use Rattle.merc_par_split.specs.Rights.{Right, used_in, unused_in, bound_in, unbound_in}
+use Rattle.merc_rights.specs.Rights.{Right, used_in, unused_in, bound_in, unbound_in}
 use Rattle.merc_par_split.specs.Forks.{forks}
 use Rattle.merc_par_split.specs.Split.{placed, placed_in_turn}
 use Rattle.merc_par_split.specs.Sites.{are_for, planned, planned_in_turn}
@@ -46,6 +46,7 @@ use Rattle.merc_plan.specs.Branch.{Hold, Gift, BranchCourse, each as c_each}
 use Rattle.merc_plan.specs.Branches.{Plan, node_branch, all_branch}
 use Rattle.merc_plan.proofs.Flat.{Flat, Each, Like, each, events}
 use Rattle.merc_plan.proofs.Judging.{flat, Sure, Keeps, Quiet}
+use Rattle.merc_plan.proofs.Shown.{Shown}
 use Rattle.merc_plan.proofs.Likes.{like_each, like_more, like_with, like_answers, each_more}
 use Rattle.merc_plan.proofs.Flats.{flat_each, sure_each}
 use Rattle.merc_plan.proofs.Events.{events_each}
@@ -153,7 +154,7 @@ module _ (known : Module) (types i : Instance) (declared : AreGoodTypes known.ty
     pub along : (later : ℕ → Bool) (w s : List Right) (out : Variables) (b : Bound) (seen : Known) (here : Set) (hold : Hold) (full : Env) → fits later w s → AllUsed w (in_nodes ns) → Within s (all_outputs ns)
         → SoundAll known types i out b seen ns → Fits known types i out b (in_nodes ns) seen full → Fit b here w hold → Match w hold full → Ready here w b (in_nodes ns) → Names hold → Counted s hold
         → Like (Ends full here w s later (all_outputs ns) hold) (flat (all_branch plan split course (make later w s) hold)) (events (all_trace program calls ns full))
-        × Sure (all_branch plan split course (make later w s) hold)
+        × Sure (Shown program) (all_branch plan split course (make later w s) hold)
     pub uses : (later : ℕ → Bool) (w s : List Right) (out : Variables) (b : Bound) (seen : Known) (here : Set) (hold : Hold) (rights : ℕ → Bool) (held : List ℕ) (g : List Gift)
         (proper : ℕ → Value → Type 0) → ProperAll known types i seen ns s hold proper → fits later w s → AllUsed w (in_nodes ns)
         → SoundAll known types i out b seen ns → can_fail_of (Joined ns) ≡ false → Fine known types i out b (in_nodes ns) seen hold → Fit b here w hold → Ready here w b (in_nodes ns) → Names hold
@@ -247,7 +248,7 @@ module _ (known : Module) (types i : Instance) (declared : AreGoodTypes known.ty
         fits_one : Fits known types i (with out (in_nodes ns)) b (in_node n) seen full
         fits_one = fits_part known types i out (with out (in_nodes ns)) b (in_node n) (in_nodes both) seen full (λ x h. or_left (in_node n x) (in_nodes ns x) h) (λ x h. or_left (out x) (in_nodes ns x) h) there
 
-        along_one : Like R (flat (part hold)) (events (node_trace program calls n full)) × Sure (part hold)
+        along_one : Like R (flat (part hold)) (events (node_trace program calls n full)) × Sure (Shown program) (part hold)
         along_one =
             first.along (later1 later) (used_in n w) (bound_in n s) (with out (in_nodes ns)) b seen here hold full fit.0 (λ x h. (those_in (in_node n) w x h).1) (λ x h. (those_in (among outs) s x h).1) sound1 fits_one
             (fit_first (in_node n) (in_nodes ns) later b here w s outs hold hold f) (match_first (in_node n) (in_nodes ns) later b here w s outs hold hold full t) (ready_first (in_node n) (in_nodes ns) later b here w s outs hold hold r) names
@@ -256,7 +257,7 @@ module _ (known : Module) (types i : Instance) (declared : AreGoodTypes known.ty
         goes_one : Each G (events (node_trace program calls n full))
         goes_one = each_event G (node_trace program calls n full) (node_law known declared program calls lawful types i n (with out (in_nodes ns)) b seen full sound1.good sound1.graded sound1.parts fits_one).goes
 
-        along_rest : (e : Hold) (q : Env) → R e q × G q → Like Q (flat (go_on e)) (events (all_trace program calls ns q)) × Sure (go_on e)
+        along_rest : (e : Hold) (q : Env) → R e q × G q → Like Q (flat (go_on e)) (events (all_trace program calls ns q)) × Sure (Shown program) (go_on e)
         along_rest e q k =
             let a = others.along later (unused_in n w) (unbound_in n s) (with out (in_node n)) (with b (among outs)) seen1 Behind e q fit.1 (rest_used all) (rest_within within) sound2
             (fits_rest known types i out (with out (in_nodes ns)) (with out (in_node n)) b (in_node n) (in_nodes ns) outs seen seen1 full q sub (λ x h. or_right (out x) (in_nodes ns x) h) (λ x h. or_right (out x) (in_node n x) h)
@@ -271,17 +272,17 @@ module _ (known : Module) (types i : Instance) (declared : AreGoodTypes known.ty
               a.1,
             )
 
-        along_both : Like Q (flat (c_each go_on (part hold))) (events (all_trace program calls both full)) × Sure (c_each go_on (part hold))
+        along_both : Like Q (flat (c_each go_on (part hold))) (events (all_trace program calls both full)) × Sure (Shown program) (c_each go_on (part hold))
         along_both =
             let a = along_one in
             let u : Flat Env = events (node_trace program calls n full) in
             let RG : Hold → Env → Type 0 = λ e q. R e q × G q in
             let alike : Like RG (flat (part hold)) u = like_with R G (flat (part hold)) u a.0 goes_one in
-            let all_sure : Each (λ e. Sure (go_on e)) (flat (part hold)) = each_more (λ e. (q : Env) × RG e q) (λ e. Sure (go_on e)) (λ e k. (along_rest e k.0 k.1).1) (flat (part hold)) (like_answers RG (flat (part hold)) u alike) in (
-              subst (λ z. Like Q z (events (all_trace program calls both full))) (sym (flat_each go_on (part hold) all_sure a.1))
+            let all_sure : Each (λ e. Sure (Shown program) (go_on e)) (flat (part hold)) = each_more (λ e. (q : Env) × RG e q) (λ e. Sure (Shown program) (go_on e)) (λ e k. (along_rest e k.0 k.1).1) (flat (part hold)) (like_answers RG (flat (part hold)) u alike) in (
+              subst (λ z. Like Q z (events (all_trace program calls both full))) (sym (flat_each (Shown program) go_on (part hold) all_sure a.1))
                   (subst (λ z. Like Q (each (λ e. flat (go_on e)) (flat (part hold))) z) (sym (events_each (λ q. all_trace program calls ns q) (node_trace program calls n full)))
                   (like_each RG Q (λ e. flat (go_on e)) (λ q. events (all_trace program calls ns q)) (λ e q k. (along_rest e q k).0) (flat (part hold)) u alike)),
-              sure_each go_on (part hold) all_sure a.1,
+              sure_each (Shown program) go_on (part hold) all_sure a.1,
             )
 
       module _ (proper : ℕ → Value → Type 0) (rights : ℕ → Bool) (held : List ℕ) (g : List Gift) (is_proper : ProperAll known types i seen both s hold proper) (all : AllUsed w (in_nodes both)) (can : can_fail_of (Joined both) ≡ false)

@@ -25,12 +25,13 @@ use Rattle.merc_program_laws.proofs.Lawful.{Fits}
 use Rattle.merc_program_laws.proofs.Calls.{LawfulCalls}
 use Rattle.merc_program_laws.proofs.Graded.{GradedEach, ends_zero}
 use Rattle.merc_program_laws.proofs.TreeCategories.{IsPart, node_law}
-use Rattle.merc_par_split.specs.Rights.{Right}
+use Rattle.merc_rights.specs.Rights.{Right}
 use Rattle.merc_par_split.specs.Split.{nothing}
 use Rattle.merc_plan.specs.Branch.{Hold, BranchCourse, after as c_after, negated as c_negated}
 use Rattle.merc_plan.specs.Branches.{Plan, node_branch, any_branch}
 use Rattle.merc_plan.proofs.Flat.{Flat, Each, Like, after, negated, events}
 use Rattle.merc_plan.proofs.Judging.{flat, Sure, Quiet}
+use Rattle.merc_plan.proofs.Shown.{Shown}
 use Rattle.merc_plan.proofs.Likes.{like_after, like_negated, like_more, like_with}
 use Rattle.merc_plan.proofs.Flats.{flat_after, sure_after, flat_negated, sure_negated}
 use Rattle.merc_plan.proofs.Events.{events_after, events_negated}
@@ -132,7 +133,7 @@ module _ (known : Module) (types i : Instance) (declared : AreGoodTypes known.ty
     pub record EachGoes (ns ms : Nodes) : Type 1 where
       pub along : (out : Variables) (b : Bound) (outs : List ℕ) (seen : Known) (here : Set) (hold : Hold) (full : Env) → SoundEach known types i out b outs seen ns → Fits known types i out b (in_nodes ns) seen full → Fit b here [] hold
           → Match [] hold full → Ready here [] b (in_nodes ns) → Names hold
-          → Like (Ends full here [] [] nothing outs hold) (flat (any_branch plan split_program course ms hold)) (events (any_trace program calls ns full)) × Sure (any_branch plan split_program course ms hold)
+          → Like (Ends full here [] [] nothing outs hold) (flat (any_branch plan split_program course ms hold)) (events (any_trace program calls ns full)) × Sure (Shown program) (any_branch plan split_program course ms hold)
       pub quiet : (out : Variables) (b : Bound) (outs : List ℕ) (seen : Known) (here : Set) (hold : Hold) → SoundEach known types i out b outs seen ns → Fine known types i out b (in_nodes ns) seen hold → Fit b here [] hold
           → Ready here [] b (in_nodes ns) → Names hold → Quiet hold.next [] (any_branch plan split_program course ms hold)
 
@@ -146,7 +147,7 @@ module _ (known : Module) (types i : Instance) (declared : AreGoodTypes known.ty
 
       first_along : (out : Variables) (b : Bound) (seen : Known) (here : Set) (hold : Hold) (full : Env) → Sound known types i out b seen n → Fits known types i out b (in_node n) seen full → Fit b here [] hold
           → Match [] hold full → Ready here [] b (in_node n) → Names hold
-          → Like (Ends full here [] [] nothing (outputs_of n) hold) (flat (one_course hold)) (events (node_trace program calls n full)) × Sure (one_course hold)
+          → Like (Ends full here [] [] nothing (outputs_of n) hold) (flat (one_course hold)) (events (node_trace program calls n full)) × Sure (Shown program) (one_course hold)
       first_along out b seen here hold full sound fits f t r names =
           first.along nothing [] [] out b seen here hold full planned (λ x h. clash h refl) (λ x h. clash h refl) sound fits f t r names (λ x h. clash h refl)
 
@@ -163,7 +164,7 @@ module _ (known : Module) (types i : Instance) (declared : AreGoodTypes known.ty
 
         along : (out : Variables) (b : Bound) (outs : List ℕ) (seen : Known) (here : Set) (hold : Hold) (full : Env) → SoundEach known types i out b outs seen (more_nodes n ns)
             → Fits known types i out b (in_nodes (more_nodes n ns)) seen full → Fit b here [] hold → Match [] hold full → Ready here [] b (in_nodes (more_nodes n ns)) → Names hold
-            → Like (Ends full here [] [] nothing outs hold) (flat (c_after (one_course hold) (rest_course hold))) (events (any_trace program calls (more_nodes n ns) full)) × Sure (c_after (one_course hold) (rest_course hold))
+            → Like (Ends full here [] [] nothing outs hold) (flat (c_after (one_course hold) (rest_course hold))) (events (any_trace program calls (more_nodes n ns) full)) × Sure (Shown program) (c_after (one_course hold) (rest_course hold))
         along out b outs seen here hold full sound fits f t r names =
             let R : Hold → Env → Type 0 = Ends full here [] [] nothing outs hold in
             let s1 = sound_first known types i out b outs seen n ns sound in
@@ -173,10 +174,10 @@ module _ (known : Module) (types i : Instance) (declared : AreGoodTypes known.ty
             (ready_less here [] b (in_nodes (more_nodes n ns)) (in_nodes ns) in_rest r) names in
             let u = node_trace program calls n full in
             let us = any_trace program calls ns full in (
-              subst (λ (z : Flat Hold). Like R z (events (t_after u us))) (sym (flat_after (one_course hold) (rest_course hold) one.1))
+              subst (λ (z : Flat Hold). Like R z (events (t_after u us))) (sym (flat_after (Shown program) (one_course hold) (rest_course hold) one.1))
                   (subst (λ (z : Flat Env). Like R (after (flat (one_course hold)) (flat (rest_course hold))) z) (sym (events_after u us))
                   (like_after R (flat (one_course hold)) (events u) (flat (rest_course hold)) (events us) (arm_answers n outs out b seen here [] [] nothing hold full s1 fits1 sound.outputs.0.1 (flat (one_course hold)) one.0) all.0)),
-              sure_after (one_course hold) (rest_course hold) one.1 all.1,
+              sure_after (Shown program) (one_course hold) (rest_course hold) one.1 all.1,
             )
 
         quiet : (out : Variables) (b : Bound) (outs : List ℕ) (seen : Known) (here : Set) (hold : Hold) → SoundEach known types i out b outs seen (more_nodes n ns) → Fine known types i out b (in_nodes (more_nodes n ns)) seen hold
@@ -194,13 +195,13 @@ module _ (known : Module) (types i : Instance) (declared : AreGoodTypes known.ty
             let R : Hold → Env → Type 0 = Ends full here [] [] nothing outs hold in
             let one = first_along out b seen here hold full (sound_denied known types i out b seen n outs category span sound) fits f t r names in
             let u = node_trace program calls n full in
-            wrap R (answers_once outs category) (c_negated hold (one_course hold)) (t_negated full u)
-            (subst (λ (z : Flat Hold). Like R z (events (t_negated full u))) (sym (flat_negated hold (one_course hold) one.1))
+            wrap (Shown program) R (answers_once outs category) (c_negated hold (one_course hold)) (t_negated full u)
+            (subst (λ (z : Flat Hold). Like R z (events (t_negated full u))) (sym (flat_negated (Shown program) hold (one_course hold) one.1))
             (subst (λ (z : Flat Env). Like R (negated hold (flat (one_course hold))) z) (sym (events_negated full u))
             (like_negated (Ends full here [] [] nothing (outputs_of n) hold) R hold full
             (moves_none here nothing outs hold (λ x h. clash (sym (ap (λ (os : List ℕ). among os x) sound.parallel.outputs.1) ∙ h) refl), (t.same, λ x v p. p))
             (flat (one_course hold)) (events u) one.0)))
-            (sure_negated hold (one_course hold) one.1);
+            (sure_negated (Shown program) hold (one_course hold) one.1);
         quiet = λ out b seen here hold sound fine f r names.
             quiet_once hold.next (answers_once outs category) (c_negated hold (one_course hold)) []
             (quiet_negated hold.next hold (one_course hold) [] (first.quiet nothing out b seen here hold planned (sound_denied known types i out b seen n outs category span sound) fine f r names));
@@ -210,7 +211,7 @@ module _ (known : Module) (types i : Instance) (declared : AreGoodTypes known.ty
     leaf_disj ns ms outs category span all = record {
       along = λ out b seen here hold full sound fits f t r names.
           let a = all.along out b outs seen here hold full (sound_each known types i out b seen ns outs category span sound) fits f t r names in
-          wrap (Ends full here [] [] nothing outs hold) (answers_once outs category) (any_branch plan split_program course ms hold) (any_trace program calls ns full) a.0 a.1;
+          wrap (Shown program) (Ends full here [] [] nothing outs hold) (answers_once outs category) (any_branch plan split_program course ms hold) (any_trace program calls ns full) a.0 a.1;
       quiet = λ out b seen here hold sound fine f r names.
           quiet_once hold.next (answers_once outs category) (any_branch plan split_program course ms hold) [] (all.quiet out b outs seen here hold (sound_each known types i out b seen ns outs category span sound) fine f r names);
     }

@@ -17,11 +17,12 @@ use Rattle.merc_meaning.specs.Runs.{Program, once_if as t_once, node_trace}
 use Rattle.merc_program_laws.proofs.Values.{Instance}
 use Rattle.merc_program_laws.proofs.Lawful.{Fits}
 use Rattle.merc_par_split.specs.Split.{nothing}
-use Rattle.merc_plan.specs.Branch.{Hold, BranchCourse}
+use Rattle.merc_plan.specs.Branch.{Hold, Fork, BranchCourse, BranchCourses}
 use Rattle.merc_plan.specs.Hold.{with_env}
 use Rattle.merc_plan.specs.Branches.{Plan, once_if as c_once, traced, node_branch}
 use Rattle.merc_plan.proofs.Flat.{Flat, Done, Halts, Tick, Answer, Like, once_if, events}
 use Rattle.merc_plan.proofs.Judging.{flat, Sure, Quiet}
+use Rattle.merc_plan.proofs.Shown.{Shown}
 use Rattle.merc_plan.proofs.Likes.{like_once}
 use Rattle.merc_plan.proofs.Flats.{flat_once, sure_once}
 use Rattle.merc_plan.proofs.Events.{events_once}
@@ -34,7 +35,7 @@ module _ (known : Module) (types i : Instance) (program : Program) (calls : Proc
     pub along : (out : Variables) (b : Bound) (seen : Known) (here : Set) (hold : Hold) (full : Env) → Sound known types i out b seen (node g outs category span) → Fits known types i out b (in_goal g) seen full
         → Fit b here [] hold → Match [] hold full → Ready here [] b (in_goal g) → Names hold
         → Like (Ends full here [] [] nothing outs hold) (flat (node_branch plan split course (node m outs category span) hold)) (events (node_trace program calls (node g outs category span) full))
-        × Sure (node_branch plan split course (node m outs category span) hold)
+        × Sure (Shown program) (node_branch plan split course (node m outs category span) hold)
     pub quiet : (out : Variables) (b : Bound) (seen : Known) (here : Set) (hold : Hold) → Sound known types i out b seen (node g outs category span) → Fine known types i out b (in_goal g) seen hold
         → Fit b here [] hold → Ready here [] b (in_goal g) → Names hold → Quiet hold.next [] (node_branch plan split course (node m outs category span) hold)
 
@@ -90,11 +91,12 @@ moves_none here later outs hold none = record {
 }
 
 -- goals that are entered once at most
-pub wrap : (R : Hold → Env → Type 0) (once : Bool) (t : BranchCourse) (u : Trace) → Like R (flat t) (events u) → Sure t → Like R (flat (c_once once t)) (events (t_once once u)) × Sure (c_once once t)
-wrap R once t u h s = (
-  subst (λ (z : Flat Hold). Like R z (events (t_once once u))) (sym (flat_once once t s))
+pub wrap : (Holds : Fork → BranchCourses → Type 0) (R : Hold → Env → Type 0) (once : Bool) (t : BranchCourse) (u : Trace) → Like R (flat t) (events u) → Sure Holds t
+    → Like R (flat (c_once once t)) (events (t_once once u)) × Sure Holds (c_once once t)
+wrap Holds R once t u h s = (
+  subst (λ (z : Flat Hold). Like R z (events (t_once once u))) (sym (flat_once Holds once t s))
       (subst (λ (z : Flat Env). Like R (once_if once (flat t)) z) (sym (events_once once u)) (like_once R once (flat t) (events u) h)),
-  sure_once once t s,
+  sure_once Holds once t s,
 )
 
 -- The course of a goal that meets nobody.
@@ -121,12 +123,12 @@ traced_like R hold (TraceAnswer e t) Done h = absurd h
 traced_like R hold (TraceAnswer e t) (Halts g) h = absurd h
 traced_like R hold (TraceAnswer e t) (Tick u) h = absurd h
 
-pub traced_sure : (hold : Hold) (t : Trace) → Sure (traced hold t)
-traced_sure hold (TraceEnds TraceDone) = tt
-traced_sure hold (TraceEnds (TraceRaised text)) = tt
-traced_sure hold (TraceEnds TraceTooDeep) = tt
-traced_sure hold (TraceTick t) = traced_sure hold t
-traced_sure hold (TraceAnswer e t) = traced_sure hold t
+pub traced_sure : (Holds : Fork → BranchCourses → Type 0) (hold : Hold) (t : Trace) → Sure Holds (traced hold t)
+traced_sure Holds hold (TraceEnds TraceDone) = tt
+traced_sure Holds hold (TraceEnds (TraceRaised text)) = tt
+traced_sure Holds hold (TraceEnds TraceTooDeep) = tt
+traced_sure Holds hold (TraceTick t) = traced_sure Holds hold t
+traced_sure Holds hold (TraceAnswer e t) = traced_sure Holds hold t
 
 pub traced_quiet : (next : ℕ) (hold : Hold) (t : Trace) → Quiet next [] (traced hold t)
 traced_quiet next hold (TraceEnds TraceDone) = tt

@@ -59,10 +59,10 @@ pub mod SplitPrograms
 pub mod Alone
 pub mod CallTrees
 pub mod Top
-pub mod Joining
 pub mod Trees
 pub mod AcceptedScripts
 pub mod ForkSite
+pub mod ForkShows
 pub mod ConjunctsEnd
 pub mod ForkUses
 pub mod Forks

@@ -11,7 +11,7 @@ use Rattle.merc_order_laws.specs.Bindings.{Variables}
 use Rattle.merc_order_laws.specs.GoodTree.{GoodNode, GoodGoal, GoodNodes, GoodDisjuncts, GoodArms}
 use Rattle.merc_order_laws.proofs.Facts.{clash, or_left, or_right, or_cases, same_bool}
 use Rattle.merc_par_split.specs.Forks.{forks}
-use Rattle.merc_par_split.specs.Rights.{Right, right_to, those, used_in, unused_in, passed_by, bound_in, unbound_in, wait_at, signal_at, between, around, ahead_of, signals_of}
+use Rattle.merc_rights.specs.Rights.{Right, right_to, those, used_in, unused_in, passed_by, bound_in, unbound_in, wait_at, signal_at, between, around, ahead_of, signals_of}
 use Rattle.merc_par_split.specs.Sites.{are_for}
 use Rattle.merc_par_split.specs.Split.{may_fail, nothing, moves_in, placed, placed_goal, placed_in_turn, placed_conjuncts, placed_arms, placed_alone}
 use Rattle.merc_script_laws.proofs.RightLists.{right_first, those_in, equal_is}
@@ -218,7 +218,7 @@ module _ (modes : ℕ → List ModeDecl) where
               (in_split_turn ns (with out (in_node n)) (with b (among (outputs_of n))) good.1 (site + forks n) later (unused_in n w) (unbound_in n s) x k)
         ]
 
-    in_split_conjuncts : (ns : Nodes) (out : Variables) (b : Bound) → GoodNodes modes out b ns → (site number : ℕ) (outputs : List ℕ) (w s : List Right) (left : List ℕ) (x : ℕ)
+    pub in_split_conjuncts : (ns : Nodes) (out : Variables) (b : Bound) → GoodNodes modes out b ns → (site number : ℕ) (outputs : List ℕ) (w s : List Right) (left : List ℕ) (x : ℕ)
         → in_nodes (placed_conjuncts site number outputs w s left ns) x ≡ true → in_nodes ns x ≡ true
     in_split_conjuncts no_nodes out b good site number outputs w s left x h = h
     in_split_conjuncts (more_nodes n ns) out b good site number outputs w s left x h =

@@ -11,7 +11,7 @@ use Rattle.merc_meaning.specs.Runs.{Program}
 use Rattle.merc_program_laws.specs.GoodPrograms.{AreGoodTypes}
 use Rattle.merc_program_laws.proofs.Values.{Instance}
 use Rattle.merc_program_laws.proofs.Calls.{LawfulCalls}
-use Rattle.merc_par_split.specs.Rights.{Right, used_in, unused_in, bound_in}
+use Rattle.merc_rights.specs.Rights.{Right, used_in, unused_in, bound_in}
 use Rattle.merc_par_split.specs.Forks.{forks}
 use Rattle.merc_par_split.specs.Split.{nothing, placed, placed_goal, placed_in_turn, placed_arms}
 use Rattle.merc_par_split.specs.Sites.{planned, planned_goal, planned_in_turn, planned_arms}

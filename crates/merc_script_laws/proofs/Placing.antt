@@ -17,13 +17,14 @@ use Rattle.merc_meaning.specs.Trace.{Env, Trace}
 use Rattle.merc_meaning.specs.Runs.{Program, answers_once, goal_trace, node_trace}
 use Rattle.merc_program_laws.proofs.Values.{Instance}
 use Rattle.merc_program_laws.proofs.Lawful.{Fits}
-use Rattle.merc_par_split.specs.Rights.{Right, around}
+use Rattle.merc_rights.specs.Rights.{Right, around}
 use Rattle.merc_par_split.specs.Split.{may_fail}
-use Rattle.merc_par_split.specs.declared.sites.SiteInfo.{SiteInfo}
+use Rattle.merc_rights.specs.declared.sites.SiteInfo.{SiteInfo}
 use Rattle.merc_plan.specs.Branch.{Hold, BranchCourse}
 use Rattle.merc_plan.specs.Branches.{Plan, node_branch}
 use Rattle.merc_plan.proofs.Flat.{Flat, Like, once_if, events}
 use Rattle.merc_plan.proofs.Judging.{flat, Sure, Keeps, Quiet}
+use Rattle.merc_plan.proofs.Shown.{Shown}
 use Rattle.merc_script_laws.proofs.Bonds.{Counted, Set, Within, AllUsed, Fit, Fine, After, Match, Names, Ends, Ready, here_or, Used, Planned, Sound, Goes}
 use Rattle.merc_script_laws.proofs.Steps.{Waits, fit_waited, match_waited, ready_waited}
 use Rattle.merc_script_laws.proofs.Holding.{waitable}
@@ -76,10 +77,10 @@ module _ (known : Module) (types i : Instance) (program : Program) (calls : Proc
   -- signals behind a goal
   signals_along : (m : Node) (here : Set) (w s : List Right) (later : ℕ → Bool) (hold : Hold) (b : Bound) (full : Env) (u : Flat Env) → Within s (outputs_of m) → once_if (answers_once (outputs_of m) (category_of m)) u ≡ u → Names hold → Counted s hold
       → Fit b here w hold → Match w hold full
-      → ((hold1 : Hold) → Waits here [] hold hold1 → Like (Ends full (here_or here []) w [] later (outputs_of m) hold1) (flat (node_branch plan split course m hold1)) u × Sure (node_branch plan split course m hold1))
-      → Like (Ends full here w s later (outputs_of m) hold) (flat (node_branch plan split course (around [] s m) hold)) u × Sure (node_branch plan split course (around [] s m) hold)
+      → ((hold1 : Hold) → Waits here [] hold hold1 → Like (Ends full (here_or here []) w [] later (outputs_of m) hold1) (flat (node_branch plan split course m hold1)) u × Sure (Shown program) (node_branch plan split course m hold1))
+      → Like (Ends full here w s later (outputs_of m) hold) (flat (node_branch plan split course (around [] s m) hold)) u × Sure (Shown program) (node_branch plan split course (around [] s m) hold)
   signals_along (node g outs cat span) here w s later hold b full u within o names counted f t goes =
-      around_along plan split course g outs cat span here w [] w s s [] later hold (divides_second w) (divides_first s) names counted (λ x h. refl) b full u within o (waitable hold names) f tt t goes [] s refl refl
+      around_along plan split course g outs cat span here w [] w s s [] later hold (divides_second w) (divides_first s) (Shown program) names counted (λ x h. refl) b full u within o (waitable hold names) f tt t goes [] s refl refl
 
   -- Signals go into goals that cannot fail.
   module _ (site : ℕ) (g : Goal) (outs : List ℕ) (cat : Option Category) (span : Span) (make : (ℕ → Bool) → List Right → List Right → Node) (infos : (ℕ → Bool) → List Right → List Right → List SiteInfo) where
@@ -103,15 +104,15 @@ module _ (known : Module) (types i : Instance) (program : Program) (calls : Proc
 
       along : (z : Bool) (later : ℕ → Bool) (w s : List Right) (out : Variables) (b : Bound) (seen : Known) (here : Set) (hold : Hold) (full : Env) → due z later w s → AllUsed w (in_goal g) → Within s outs
           → Sound known types i out b seen whole → Fits known types i out b (in_goal g) seen full → Fit b here w hold → Match w hold full → Ready here w b (in_goal g) → Names hold → Counted s hold
-          → Like (Ends full here w s later outs hold) (flat (node_branch plan split course (made z later w s) hold)) (events (node_trace program calls whole full)) × Sure (node_branch plan split course (made z later w s) hold)
+          → Like (Ends full here w s later outs hold) (flat (node_branch plan split course (made z later w s) hold)) (events (node_trace program calls whole full)) × Sure (Shown program) (node_branch plan split course (made z later w s) hold)
       along true later w s out b seen here hold full fit all within sound there f t r names counted =
           let m = make later w [] in
           let u : Flat Env = events (node_trace program calls whole full) in
           let d = divides_second w in
-          subst (λ (o : List ℕ). Like (Ends full here w s later o hold) (flat (node_branch plan split course (around [] s m) hold)) u × Sure (node_branch plan split course (around [] s m) hold)) (goes.shaped later w [])
+          subst (λ (o : List ℕ). Like (Ends full here w s later o hold) (flat (node_branch plan split course (around [] s m) hold)) u × Sure (Shown program) (node_branch plan split course (around [] s m) hold)) (goes.shaped later w [])
           (signals_along m here w s later hold b full u (subst (λ (o : List ℕ). Within s o) (sym (goes.shaped later w [])) within) (once_made whole m full (goes.shaped later w []) (goes.rated later w [])) names counted f t
           (λ hold1 p.
-          subst (λ (o : List ℕ). Like (Ends full (here_or here []) w [] later o hold1) (flat (node_branch plan split course m hold1)) u × Sure (node_branch plan split course m hold1)) (sym (goes.shaped later w []))
+          subst (λ (o : List ℕ). Like (Ends full (here_or here []) w [] later o hold1) (flat (node_branch plan split course m hold1)) u × Sure (Shown program) (node_branch plan split course m hold1)) (sym (goes.shaped later w []))
           (goes.along later w [] out b seen (here_or here []) hold1 full fit all (λ x h. clash h refl) sound there (fit_waited b here w [] w hold hold1 d.parts d.in1 d.in2 d.apart f.once f p.moves)
           (match_waited b here w [] w hold hold1 d.parts d.in1 d.in2 d.apart full f t p) (ready_waited b here w [] w hold hold1 d.parts d.in1 d.in2 d.apart (in_goal g) r) (p.moves.names names) (λ x h. clash h refl))))
       along false later w s out b seen here hold full fit all within sound there f t r names counted = goes.along later w s out b seen here hold full fit all within sound there f t r names counted

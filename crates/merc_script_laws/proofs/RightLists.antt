@@ -5,7 +5,7 @@ use Rattle.merc_order.specs.Bound.{Bound, with, among}
 use Rattle.merc_order_laws.proofs.Facts.{clash, or_left, or_right, or_cases, either_way, or_assoc, among_append}
 use Rattle.merc_core.specs.Rights.{has}
 use Rattle.merc_core.specs.WellFormed.{AreDistinct}
-use Rattle.merc_par_split.specs.Rights.{Right, those}
+use Rattle.merc_rights.specs.Rights.{Right, those}
 use Rattle.merc_par_split.specs.Sites.{are_for}
 use Rattle.merc_plan.proofs.Sets.{absent, front_or, first_in, rest_in}
 use Rattle.merc_script_laws.proofs.Bonds.{rights_for, Parts}

@@ -16,12 +16,13 @@ use Rattle.merc_meaning.specs.Runs.{Program, answers_once, once_if as t_once, go
 use Rattle.merc_program_laws.specs.GoodPrograms.{AreGoodTypes}
 use Rattle.merc_program_laws.proofs.Values.{Instance}
 use Rattle.merc_program_laws.proofs.Calls.{LawfulCalls}
-use Rattle.merc_par_split.specs.Rights.{Right, around}
+use Rattle.merc_rights.specs.Rights.{Right, around}
 use Rattle.merc_par_split.specs.Split.{nothing}
 use Rattle.merc_plan.specs.Branch.{Hold, BranchCourse}
 use Rattle.merc_plan.specs.Branches.{Plan, node_branch}
 use Rattle.merc_plan.proofs.Flat.{once_if, events}
 use Rattle.merc_plan.proofs.Judging.{flat}
+use Rattle.merc_plan.proofs.Shown.{Shown}
 use Rattle.merc_plan.proofs.Likes.{like_more, once_twice}
 use Rattle.merc_plan.proofs.Events.{events_once}
 use Rattle.merc_script_laws.proofs.Bonds.{Set, Fit, Ends, here_or, Goes}
@@ -62,7 +63,7 @@ module _ (known : Module) (types i : Instance) (declared : AreGoodTypes known.ty
     along = λ later w s out b seen here hold full fit all within sound there f t r names counted.
         let one = leaf later w s fit in
         let d = divides_first w in
-        around_along plan split course m outs category span here w w [] s s [] later hold d (divides_first s) names counted (λ x h. refl) b full (events (node_trace program calls whole full)) within
+        around_along plan split course m outs category span here w w [] s s [] later hold d (divides_first s) (Shown program) names counted (λ x h. refl) b full (events (node_trace program calls whole full)) within
         (once_same (answers_once outs category) (goal_trace program calls g full)) (waitable hold names) f f.once t
         (λ hold1 p.
         let a = one.along out b seen (here_or here w) hold1 full sound there (fit_behind b here w hold hold1 f p) (match_waited b here w w [] hold hold1 d.parts d.in1 d.in2 d.apart full f t p)

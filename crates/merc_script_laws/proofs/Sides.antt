@@ -16,9 +16,9 @@ use Rattle.merc_meaning.specs.Runs.{Program, answers_once}
 use Rattle.merc_program_laws.proofs.Values.{Instance}
 use Rattle.merc_core.specs.Rights.{has}
 use Rattle.merc_core.specs.WellFormed.{AreDistinct}
-use Rattle.merc_par_split.specs.Rights.{Right, those, signal_at, around}
+use Rattle.merc_rights.specs.Rights.{Right, those, signal_at, around}
 use Rattle.merc_par_split.specs.Sites.{are_for}
-use Rattle.merc_plan.specs.Branch.{HeldSignal, Hold, Gift, gift_at, BranchCourse}
+use Rattle.merc_plan.specs.Branch.{HeldSignal, Hold, Fork, Gift, gift_at, BranchCourse, BranchCourses}
 use Rattle.merc_plan.specs.Branches.{Plan, once_if as c_once, node_branch}
 use Rattle.merc_plan.proofs.Flat.{Flat, Done, Answer, Each, Like, each, once_if}
 use Rattle.merc_plan.proofs.Judging.{flat, Sure, Keeps}
@@ -96,23 +96,23 @@ module _ (plan : Plan) (program : Program) (call : Procedure → Hold → Branch
       ends_inside : (full : Env) (hold1 e e1 : Hold) (f : Env) → Moves here w1 [] always [] hold hold1 → Sends e e1 → (((x : ℕ) → are_for s1 x ≡ false) → e1.signals ≡ e.signals) → ((x : ℕ) → are_for s1 x ≡ false → signs x e1 ≡ signs x e) → Inside full hold1 e f → Answers full e1 f
       ends_inside full hold1 e e1 f m p still others k = (moves_inside hold1 e e1 m k.0 p still others, ((λ x v h. k.1.0 x v (sym (ap (λ n. value_at n x) p.env) ∙ h)), k.1.1))
 
-      wrapped : (full : Env) (u : Flat Env) → once_if once u ≡ u → (t : BranchCourse) → Like (Answers full) (flat t) u × Sure t → Like (Answers full) (flat (c_once once t)) u × Sure (c_once once t)
-      wrapped full u o t h = (
-        subst (λ x. Like (Answers full) x u) (sym (flat_once once t h.1)) (subst (λ x. Like (Answers full) (once_if once (flat t)) x) o (like_once (Answers full) once (flat t) u h.0)),
-        sure_once once t h.1,
+      wrapped : (Holds : Fork → BranchCourses → Type 0) (full : Env) (u : Flat Env) → once_if once u ≡ u → (t : BranchCourse) → Like (Answers full) (flat t) u × Sure Holds t → Like (Answers full) (flat (c_once once t)) u × Sure Holds (c_once once t)
+      wrapped Holds full u o t h = (
+        subst (λ x. Like (Answers full) x u) (sym (flat_once Holds once t h.1)) (subst (λ x. Like (Answers full) (once_if once (flat t)) x) o (like_once (Answers full) once (flat t) u h.0)),
+        sure_once Holds once t h.1,
       )
 
       -- signals behind change neither steps nor answers
-      signalled : Names hold → Counted s hold → ((x : ℕ) → are_for s1 x ≡ true → rights_for x s1 ≡ rights_for x s) → (full : Env) (u : Flat Env) → Within s outs → (hold1 : Hold) → Moves here w1 [] always [] hold hold1 → Like (Inside full hold1) (flat (course hold1)) u × Sure (course hold1)
-          → Like (Answers full) (flat (then_signals s1 hold1)) u × Sure (then_signals s1 hold1)
-      signalled names counted all full u within hold1 m a = (
-        subst (λ z. Like (Answers full) z u) (sym (flat_each (λ e. sending plan program call span s1 e) (course hold1) all_sure a.1))
+      signalled : (Holds : Fork → BranchCourses → Type 0) → Names hold → Counted s hold → ((x : ℕ) → are_for s1 x ≡ true → rights_for x s1 ≡ rights_for x s) → (full : Env) (u : Flat Env) → Within s outs → (hold1 : Hold) → Moves here w1 [] always [] hold hold1 → Like (Inside full hold1) (flat (course hold1)) u × Sure Holds (course hold1)
+          → Like (Answers full) (flat (then_signals s1 hold1)) u × Sure Holds (then_signals s1 hold1)
+      signalled Holds names counted all full u within hold1 m a = (
+        subst (λ z. Like (Answers full) z u) (sym (flat_each Holds (λ e. sending plan program call span s1 e) (course hold1) all_sure a.1))
             (subst (λ z. Like (Answers full) (each (λ e. flat (sending plan program call span s1 e)) (flat (course hold1))) z) (each_answer u)
             (like_each (Inside full hold1) (Answers full) (λ e. flat (sending plan program call span s1 e)) (λ f. Answer f Done) one (flat (course hold1)) u a.0)),
-        sure_each (λ e. sending plan program call span s1 e) (course hold1) all_sure a.1,
+        sure_each Holds (λ e. sending plan program call span s1 e) (course hold1) all_sure a.1,
       ) where
-        all_sure : Each (λ e. Sure (sending plan program call span s1 e)) (flat (course hold1))
-        all_sure = each_all (λ e. Sure (sending plan program call span s1 e)) (λ e. signals_sure plan program call span s1 e) (flat (course hold1))
+        all_sure : Each (λ e. Sure Holds (sending plan program call span s1 e)) (flat (course hold1))
+        all_sure = each_all (λ e. Sure Holds (sending plan program call span s1 e)) (λ e. signals_sure plan program call span Holds s1 e) (flat (course hold1))
 
         one : (e : Hold) (f : Env) → Inside full hold1 e f → Like (Answers full) (flat (sending plan program call span s1 e)) (Answer f Done)
         one e f k =
@@ -120,26 +120,26 @@ module _ (plan : Plan) (program : Program) (call : Procedure → Hold → Branch
             (λ x h. ap length (all x h) ∙ counted x (sd.in1 x h) ∙ ap length (sym (k.0.unsigned x (not_for s2 x (λ j. sd.apart x h j)) ∙ m.unsigned x refl))) (λ x h. k.0.fresh x (within x (sd.in1 x h))) in
             subst (λ z. Like (Answers full) z (Answer f Done)) (sym g.is_flat) (ends_inside full hold1 e g.hold1 f m g.sends g.still g.unsigned k, tt)
 
-      pub around_along : Names hold → Counted s hold → ((x : ℕ) → are_for s1 x ≡ true → rights_for x s1 ≡ rights_for x s) → (b : Bound) (full : Env) (u : Flat Env) → Within s outs → once_if once u ≡ u → Waitable hold → Fit b here w hold → AreDistinct (variables_of w1) → Match w hold full
-          → ((hold1 : Hold) → Waits here w1 hold hold1 → Like (Inside full hold1) (flat (course hold1)) u × Sure (course hold1))
+      pub around_along : (Holds : Fork → BranchCourses → Type 0) → Names hold → Counted s hold → ((x : ℕ) → are_for s1 x ≡ true → rights_for x s1 ≡ rights_for x s) → (b : Bound) (full : Env) (u : Flat Env) → Within s outs → once_if once u ≡ u → Waitable hold → Fit b here w hold → AreDistinct (variables_of w1) → Match w hold full
+          → ((hold1 : Hold) → Waits here w1 hold hold1 → Like (Inside full hold1) (flat (course hold1)) u × Sure Holds (course hold1))
           → (v z : List Right) → v ≡ w1 → z ≡ s1
-          → Like (Answers full) (flat (node_branch plan program call (around v z inner) hold)) u × Sure (node_branch plan program call (around v z inner) hold)
-      around_along names counted all b full u within o can f d t goes [] [] p q =
+          → Like (Answers full) (flat (node_branch plan program call (around v z inner) hold)) u × Sure Holds (node_branch plan program call (around v z inner) hold)
+      around_along Holds names counted all b full u within o can f d t goes [] [] p q =
           let m = subst (λ n. Waits here n hold hold) p (waits_none here hold) in
           let a = goes hold m in
           (like_more (Inside full hold) (Answers full) (λ e g k. ends_inside full hold e e g m.moves (sends_none e) (λ n. refl) (λ x h. refl) k) (flat (course hold)) u a.0, a.1)
-      around_along names counted all b full u within o can f d t goes [] (r ∷ z) p q =
+      around_along Holds names counted all b full u within o can f d t goes [] (r ∷ z) p q =
           let m = subst (λ n. Waits here n hold hold) p (waits_none here hold) in
-          subst (λ n. Like (Answers full) (flat (c_once once (then_signals n hold))) u × Sure (c_once once (then_signals n hold))) (sym q)
-          (wrapped full u o (then_signals s1 hold) (signalled names counted all full u within hold m.moves (goes hold m)))
-      around_along names counted all b full u within o can f d t goes (r ∷ v) z p q =
+          subst (λ n. Like (Answers full) (flat (c_once once (then_signals n hold))) u × Sure Holds (c_once once (then_signals n hold))) (sym q)
+          (wrapped Holds full u o (then_signals s1 hold) (signalled Holds names counted all full u within hold m.moves (goes hold m)))
+      around_along Holds names counted all b full u within o can f d t goes (r ∷ v) z p q =
           let f1 = subst (λ n. Fit b here n hold) (sym p) (fit_less b here w w1 hold wd.in1 d f) in
           let t1 = subst (λ n. Match n hold full) (sym p) (match_less w w1 hold full wd.in1 t) in
           let a = waits_flat plan program call span (r ∷ v) b here hold full (inner ∷ map (signal_at span) z) can f1 t1 in
           let m = subst (λ n. Waits here n hold a.hold1) p a.waits in
-          let k = subst (λ n. Like (Answers full) (flat (then_signals n a.hold1)) u × Sure (then_signals n a.hold1)) (sym q) (signalled names counted all full u within a.hold1 m.moves (goes a.hold1 m)) in
-          wrapped full u o (waiting plan program call span (r ∷ v) (inner ∷ map (signal_at span) z) hold)
-          (subst (λ y. Like (Answers full) y u) (sym a.is_flat) k.0, a.is_sure k.1)
+          let k = subst (λ n. Like (Answers full) (flat (then_signals n a.hold1)) u × Sure Holds (then_signals n a.hold1)) (sym q) (signalled Holds names counted all full u within a.hold1 m.moves (goes a.hold1 m)) in
+          wrapped Holds full u o (waiting plan program call span (r ∷ v) (inner ∷ map (signal_at span) z) hold)
+          (subst (λ y. Like (Answers full) y u) (sym a.is_flat) k.0, a.is_sure Holds k.1)
 
       -- What is so of variables behind it, where these occur in it.
       module _ (known : Module) (types i : Instance) (out : Variables) (b : Bound) (occurs : Variables) (seen seen1 : Known) (never : Type 0) (proper : ℕ → Value → Type 0) (rights : ℕ → Bool) (held : List ℕ) (g : List Gift)

@@ -27,7 +27,7 @@ use Rattle.merc_program_laws.proofs.Lawful.{Fits}
 use Rattle.merc_program_laws.proofs.Maxima.{then_is_zero}
 use Rattle.merc_core.specs.Rights.{has}
 use Rattle.merc_core.specs.WellFormed.{AreDistinct}
-use Rattle.merc_par_split.specs.Rights.{Right, users}
+use Rattle.merc_rights.specs.Rights.{Right, users}
 use Rattle.merc_par_split.specs.Sites.{are_for}
 use Rattle.merc_plan.specs.Branch.{Hold, NamedCell, Gift, gift_at, value_given}
 use Rattle.merc_plan.specs.Hold.{child_for}

@@ -8,8 +8,8 @@ use Rattle.merc_order_laws.specs.Bindings.{Variables, AreFree}
 use Rattle.merc_order_laws.specs.GoodTree.{GoodNode, GoodNodes}
 use Rattle.merc_core.specs.Rights.{has}
 use Rattle.merc_core.specs.WellFormed.{AreDistinct}
-use Rattle.merc_par_split.specs.declared.sites.Moved.{Moved}
-use Rattle.merc_par_split.specs.Rights.{Right, users}
+use Rattle.merc_rights.specs.declared.sites.Moved.{Moved}
+use Rattle.merc_rights.specs.Rights.{Right, users}
 use Rattle.merc_par_split.specs.Sites.{are_for, signal_moves, wait_moves, site_info}
 use Rattle.merc_plan.specs.Hold.{child_for}
 use Rattle.merc_plan.proofs.Sets.{clash, tell, absent, same_number, front_or, in_either, or_left, or_right}

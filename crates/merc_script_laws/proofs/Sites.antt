@@ -5,8 +5,8 @@ use Rattle.merc_graded_tree.specs.Nodes.{Node, Nodes, no_nodes, more_nodes, outp
 use Rattle.merc_graded_tree.specs.Variables.{among, in_node, in_nodes}
 use Rattle.merc_core.specs.Rights.{has}
 use Rattle.merc_core.specs.WellFormed.{AreDistinct}
-use Rattle.merc_par_split.specs.declared.sites.CellInfo.{CellInfo}
-use Rattle.merc_par_split.specs.Rights.{users}
+use Rattle.merc_rights.specs.declared.sites.CellInfo.{CellInfo}
+use Rattle.merc_rights.specs.Rights.{users}
 use Rattle.merc_par_split.specs.Sites.{count, consumers, cells_of}
 use Rattle.merc_plan.proofs.Sets.{clash, tell, absent, same_number, is_same, first_in, rest_in, front_or, in_left, in_right, in_either, or_either, or_left, or_right}
 use Rattle.merc_script_laws.specs.Parallel.{all_outputs}

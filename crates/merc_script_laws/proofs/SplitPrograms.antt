@@ -7,7 +7,7 @@ use Rattle.merc_graded_tree.specs.Nodes.{Node}
 use Rattle.merc_meaning.specs.Runs.{ProcedureBody}
 use Rattle.merc_meaning.specs.Programs.{body_of, body_of_mode, program_with}
 use Rattle.merc_program_laws.proofs.Values.{none_not, same_some}
-use Rattle.merc_par_split.specs.declared.sites.SiteInfo.{SiteInfo}
+use Rattle.merc_rights.specs.declared.sites.SiteInfo.{SiteInfo}
 use Rattle.merc_par_split.specs.Forks.{forks}
 use Rattle.merc_par_split.specs.Split.{nothing, split, all_split}
 use Rattle.merc_par_split.specs.Sites.{sites, all_sites}

@@ -13,7 +13,7 @@ use Rattle.merc_meaning.specs.Steps.{value_at}
 use Rattle.merc_program_laws.specs.ValueTypes.{HasType}
 use Rattle.merc_program_laws.proofs.Values.{Instance, or_not_left, or_not_right, both_are}
 use Rattle.merc_core.specs.WellFormed.{AreDistinct}
-use Rattle.merc_par_split.specs.Rights.{Right, those}
+use Rattle.merc_rights.specs.Rights.{Right, those}
 use Rattle.merc_par_split.specs.Sites.{are_for}
 use Rattle.merc_plan.specs.Branch.{HeldWait, Hold}
 use Rattle.merc_script_laws.proofs.Bonds.{Set, Here, Owed, AllUsed, Fit, Fine, After, Match, Names, Moves, Kept, Ready, here_behind, here_or, Parts}

@@ -38,15 +38,16 @@ use Rattle.merc_program_laws.proofs.Maxima.{zero_is, sure_is, fails_or, greater_
 use Rattle.merc_program_laws.proofs.Graded.{GradedArms, ends_zero}
 use Rattle.merc_program_laws.proofs.TreeCategories.{IsPart}
 use Rattle.merc_core.specs.Rights.{has}
-use Rattle.merc_par_split.specs.Rights.{Right, used_in, bound_in}
+use Rattle.merc_rights.specs.Rights.{Right, used_in, bound_in}
 use Rattle.merc_par_split.specs.Forks.{forks}
 use Rattle.merc_par_split.specs.Split.{placed, placed_arms}
 use Rattle.merc_par_split.specs.Sites.{are_for, planned, planned_arms}
 use Rattle.merc_par_split.proofs.PlannedCounts.{planned_count}
-use Rattle.merc_plan.specs.Branch.{Hold, Gift, BranchCourse}
+use Rattle.merc_plan.specs.Branch.{Hold, Fork, Gift, BranchCourse, BranchCourses}
 use Rattle.merc_plan.specs.Branches.{Plan, where_some as c_where, node_branch, arms_branch}
 use Rattle.merc_plan.proofs.Flat.{Like, events}
 use Rattle.merc_plan.proofs.Judging.{flat, Sure, Keeps, Quiet}
+use Rattle.merc_plan.proofs.Shown.{Shown}
 use Rattle.merc_plan.proofs.Holds.{keeps_end}
 use Rattle.merc_script_laws.specs.Parallel.{ArmsKeepOutputs, ArmsHaveFew}
 use Rattle.merc_script_laws.proofs.Bonds.{Counted, Set, Here, signs, AllUsed, Fit, Fine, After, Match, Names, Ends, Ready, Used, Rightful, Planned, Sound, Goes}
@@ -96,10 +97,10 @@ all_of test (u ∷ ss) s h k = elim (or_cases (same_symbol s u) (has_symbol ss s
 ]
 
 -- one course or the other, beside one trace or the other
-where_along : (R : Hold → Env → Type 0) (t t1 : BranchCourse) (u u1 : Trace) (o : Option Values) → ((vs : Values) → o ≡ Some vs → Like R (flat t) (events u) × Sure t) → Like R (flat t1) (events u1) × Sure t1
-    → Like R (flat (c_where o t t1)) (events (t_where o u u1)) × Sure (c_where o t t1)
-where_along R t t1 u u1 None first rest = rest
-where_along R t t1 u u1 (Some vs) first rest = first vs refl
+where_along : (Holds : Fork → BranchCourses → Type 0) (R : Hold → Env → Type 0) (t t1 : BranchCourse) (u u1 : Trace) (o : Option Values) → ((vs : Values) → o ≡ Some vs → Like R (flat t) (events u) × Sure Holds t) → Like R (flat t1) (events u1) × Sure Holds t1
+    → Like R (flat (c_where o t t1)) (events (t_where o u u1)) × Sure Holds (c_where o t t1)
+where_along Holds R t t1 u u1 None first rest = rest
+where_along Holds R t t1 u u1 (Some vs) first rest = first vs refl
 
 where_is : (P : BranchCourse → Type 0) (t t1 : BranchCourse) (o : Option Values) → ((vs : Values) → o ≡ Some vs → P t) → (o ≡ None → P t1) → P (c_where o t t1)
 where_is P t t1 None first rest = rest refl
@@ -189,7 +190,7 @@ module _ (known : Module) (types i : Instance) (declared : AreGoodTypes known.ty
         → ((y : ℕ) → in_arms arms y ≡ true → whole y ≡ true) → SoundArms known types i out whole b outs seen x arms → Fits known types i out b whole seen full → Fit b here w hold → Match w hold full → Ready here w b whole
         → Names hold → Counted s hold → value_at full x ≡ Some v
         → Like (Ends full here w s later outs hold) (flat (arms_branch plan split course (make later w s) (Some v) hold)) (events (arms_trace program calls arms (Some v) full))
-        × Sure (arms_branch plan split course (make later w s) (Some v) hold)
+        × Sure (Shown program) (arms_branch plan split course (make later w s) (Some v) hold)
     pub uses : (x : ℕ) (v : Value) (later : ℕ → Bool) (w s : List Right) (out whole : Variables) (outs : List ℕ) (b : Bound) (seen : Known) (here : Set) (hold : Hold) (rights : ℕ → Bool) (held : List ℕ) (g : List Gift)
         (proper : ℕ → Value → Type 0) → ((y c : ℕ) (u : Value) → are_for s y ≡ true → has c (signs y hold) ≡ true → HasType known.types u (replaced i (types y)) → proper c u) → fits later w s
         → ((y : ℕ) → in_arms arms y ≡ true → whole y ≡ true) → AllUsed w whole → SoundArms known types i out whole b outs seen x arms → can_fail_of (of_arms arms) ≡ false → arm_for v arms ≡ true
@@ -234,9 +235,9 @@ module _ (known : Module) (types i : Instance) (declared : AreGoodTypes known.ty
         → ((y : ℕ) → in_arms all_arms y ≡ true → whole y ≡ true) → SoundArms known types i out whole b outs seen x all_arms → Fits known types i out b whole seen full → Fit b here w hold → Match w hold full → Ready here w b whole
         → Names hold → Counted s hold → value_at full x ≡ Some v
         → Like (Ends full here w s later outs hold) (flat (c_where (fields sy v) (arm later w s hold) (other_arms later w s v hold))) (events (arms_trace program calls all_arms (Some v) full))
-        × Sure (c_where (fields sy v) (arm later w s hold) (other_arms later w s v hold))
+        × Sure (Shown program) (c_where (fields sy v) (arm later w s hold) (other_arms later w s v hold))
     along x v later w s out whole outs b seen here hold full fit sub sound there f t r names counted at =
-        where_along (Ends full here w s later outs hold) (arm later w s hold) (other_arms later w s v hold) (node_trace program calls n full) (arms_trace program calls arms (Some v) full) (fields sy v)
+        where_along (Shown program) (Ends full here w s later outs hold) (arm later w s hold) (other_arms later w s v hold) (node_trace program calls n full) (arms_trace program calls arms (Some v) full) (fields sy v)
         (λ vs e.
         arm_along known types i declared program calls lawful plan split course n make fits goes later w s fit.0 (with out (among (x ∷ []))) b ((x, sy) ∷ seen) here hold (sound_arm known types i out whole b outs seen x sy n arms sound) f
         (ready_less here w b whole (in_node n) (in_arm whole sub) r) names full (fits_arm known types i out (in_node n) whole b seen full x sy v vs there (in_arm whole sub) at e) t counted outs sound.outputs.0.1)

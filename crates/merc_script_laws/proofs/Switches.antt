@@ -26,12 +26,13 @@ use Rattle.merc_program_laws.proofs.Lawful.{Fits}
 use Rattle.merc_program_laws.proofs.Calls.{LawfulCalls}
 use Rattle.merc_program_laws.proofs.Maxima.{zero_is, sure_is, fails_or}
 use Rattle.merc_core.specs.Rights.{has}
-use Rattle.merc_par_split.specs.Rights.{Right, those, around}
+use Rattle.merc_rights.specs.Rights.{Right, those, around}
 use Rattle.merc_par_split.specs.Sites.{are_for}
 use Rattle.merc_plan.specs.Branch.{Hold, Gift, BranchCourse}
 use Rattle.merc_plan.specs.Branches.{Plan, once_if as c_once, node_branch, arms_branch}
 use Rattle.merc_plan.proofs.Flat.{Like, events}
 use Rattle.merc_plan.proofs.Judging.{flat, Sure, Keeps, Quiet}
+use Rattle.merc_plan.proofs.Shown.{Shown}
 use Rattle.merc_plan.proofs.Holds.{keeps_once, keeps_end, quiet_once}
 use Rattle.merc_script_laws.proofs.Bonds.{Counted, Set, Here, signs, AllUsed, Fit, Fine, After, Match, Names, Ends, Ready, here_or, Used, Rightful, Sound, Proper, Goes}
 use Rattle.merc_script_laws.proofs.RightLists.{equal_same, those_in, in_those, those_once}
@@ -129,7 +130,7 @@ module _ (known : Module) (types i : Instance) (declared : AreGoodTypes known.ty
 
       along_waited : (full : Env) → Fits known types i out b occurs seen full → Match w hold full → Counted s hold
           → Like (Ends full Here1 (others w) s later outs hold1) (flat (node_branch plan split course (inner later w s) hold1)) (events (node_trace program calls whole full))
-          × Sure (node_branch plan split course (inner later w s) hold1)
+          × Sure (Shown program) (node_branch plan split course (inner later w s) hold1)
       along_waited full there t counted =
           let d = divides_those is_it w in
           let R : Hold → Env → Type 0 = Ends full Here1 (others w) s later outs hold1 in
@@ -138,10 +139,10 @@ module _ (known : Module) (types i : Instance) (declared : AreGoodTypes known.ty
           let v = it in
           let at : value_at full x ≡ Some v.0 = t1.same x v.0 v.1 in
           let a = goes.along x v.0 later (others w) s out occurs outs b seen Here1 hold1 full fit in_switch (sound_arms out b seen sound) there fit1 t1 ready1 names1 (λ y h. counted y h ∙ ap length (sym (p.moves.unsigned y refl))) at in
-          subst (λ o. Like R (flat (node_branch plan split course (inner later w s) hold1)) (events (t_once once (arms_trace program calls arms o full))) × Sure (node_branch plan split course (inner later w s) hold1)) (sym at)
+          subst (λ o. Like R (flat (node_branch plan split course (inner later w s) hold1)) (events (t_once once (arms_trace program calls arms o full))) × Sure (Shown program) (node_branch plan split course (inner later w s) hold1)) (sym at)
           (subst (λ o. Like R (flat (c_once once (arms_branch plan split course (makes later (others w) s) o hold1))) (events (t_once once (arms_trace program calls arms (Some v.0) full)))
-          × Sure (c_once once (arms_branch plan split course (makes later (others w) s) o hold1))) (sym v.1)
-          (wrap R once (arms_course later w s v.0 hold1) (arms_trace program calls arms (Some v.0) full) a.0 a.1))
+          × Sure (Shown program) (c_once once (arms_branch plan split course (makes later (others w) s) o hold1))) (sym v.1)
+          (wrap (Shown program) R once (arms_course later w s v.0 hold1) (arms_trace program calls arms (Some v.0) full) a.0 a.1))
 
       module _ (proper : ℕ → Value → Type 0) (rights : ℕ → Bool) (held held1 : List ℕ) (g : List Gift) (is_proper : Proper known types i seen whole s hold proper) (all : AllUsed w occurs) (can : can_fail_of (category_at whole) ≡ false)
           (fine : Fine known types i out b occurs seen hold) (q : Rightful w s outs rights held g hold) (still : StillWaits plan split course span (early w) hold held held1) where
@@ -202,7 +203,7 @@ module _ (known : Module) (types i : Instance) (declared : AreGoodTypes known.ty
     pub goes_switch : Goes known types i program calls plan split course whole made due
     goes_switch = record {
       along = λ later w s out b seen here hold full fit all within sound there f t r names counted.
-          around_along plan split course (Switch x (makes later (others w) s)) outs cat span here w (early w) (others w) s [] s later hold (divides_those is_it w) (divides_second s) names counted (λ y h. clash h refl) b full (events (node_trace program calls whole full)) within
+          around_along plan split course (Switch x (makes later (others w) s)) outs cat span here w (early w) (others w) s [] s later hold (divides_those is_it w) (divides_second s) (Shown program) names counted (λ y h. clash h refl) b full (events (node_trace program calls whole full)) within
           (once_same (answers_once outs cat) (goal_trace program calls (Switch x arms) full)) (waitable hold names) f (those_once is_it w f.once) t
           (λ hold1 p. along_waited later w s out b seen here hold fit sound f r names hold1 p full there t counted) (early w) [] refl refl;
       uses = λ later w s out b seen here hold rights held g proper is_proper fit all sound can fine f r names q.

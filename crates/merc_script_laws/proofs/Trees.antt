@@ -20,6 +20,7 @@ use Rattle.merc_plan.specs.Branches.{Plan}
 use Rattle.merc_script_laws.proofs.Bonds.{Goes, Planned}
 use Rattle.merc_script_laws.proofs.CallLeaves.{CallsGo, leaf_basic}
 use Rattle.merc_script_laws.proofs.CallTrees.{GoesAt}
+use Rattle.merc_script_laws.proofs.ForkShows.{AtDepth}
 use Rattle.merc_script_laws.proofs.Forks.{goes_par}
 use Rattle.merc_script_laws.proofs.InTurn.{ListGoes, list_none, in_turn_goes}
 use Rattle.merc_script_laws.proofs.JoinedLeaves.{EachGoes, each_none, each_one, leaf_disj, leaf_not}
@@ -30,9 +31,9 @@ use Rattle.merc_script_laws.proofs.Sites.{nth}
 use Rattle.merc_script_laws.proofs.SwitchArms.{ArmsGo, no_arms_go, arms_go}
 
 -- Given are the module, the types of the variables, and what type variables stand for; the program of the graded trees, whose calls are lawful; and the plan and
--- the program of the split trees, whose calls go along.
+-- the program of the split trees, whose calls go along those, up to some depth.
 module _ (known : Module) (types i : Instance) (declared : AreGoodTypes known.types) (program : Program) (calls : Procedure → Env → Trace) (lawful : LawfulCalls known program calls)
-    (plan : Plan) (split : Program) (course : Procedure → Hold → BranchCourse) (go : CallsGo known calls split course) where
+    (plan : Plan) (split : Program) (course : Procedure → Hold → BranchCourse) (go : CallsGo known program calls split course) (deep : AtDepth program calls) where
   abbrev pub At : Node → ℕ → Type 1
   At n site = GoesAt known program plan split types i calls course n site
 
@@ -54,7 +55,7 @@ module _ (known : Module) (types i : Instance) (declared : AreGoodTypes known.ty
         (λ later w s fit. leaf_basic known types i program calls lawful split course go plan outs cat span declared g)
     goes_in (Conjunction Sequential ns) outs cat span site = placed_conj known types i declared program calls lawful plan split course site outs cat span ns (goes_list ns site)
     goes_in (Conjunction (Parallel place) ns) outs cat span site =
-        goes_par known types i declared program calls lawful plan split course place ns outs cat span site (λ k n e at. goes_at ns 1 k n e at)
+        goes_par known types i declared program calls lawful plan split course place ns outs cat span site (λ k n e at. goes_at ns 1 k n e at) deep
     goes_in (Disjunction ns) outs cat span site =
         goes_leaf known types i declared program calls lawful plan split course (Disjunction ns) (Disjunction (placed_alone site ns)) outs cat span (λ later w s. Planned plan site (planned_alone ns))
         (λ later w s fit. leaf_disj known types i declared program calls lawful plan split course ns (placed_alone site ns) outs cat span (goes_each ns site fit))

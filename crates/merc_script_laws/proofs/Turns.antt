@@ -21,11 +21,12 @@ use Rattle.merc_program_laws.specs.GoodPrograms.{AreGoodTypes}
 use Rattle.merc_program_laws.proofs.Values.{Instance, or_false}
 use Rattle.merc_program_laws.proofs.Calls.{LawfulCalls}
 use Rattle.merc_program_laws.proofs.Maxima.{capped_fail, capped_zero, capped_is_zero}
-use Rattle.merc_par_split.specs.Rights.{Right}
+use Rattle.merc_rights.specs.Rights.{Right}
 use Rattle.merc_plan.specs.Branch.{Hold, Gift, BranchCourse}
 use Rattle.merc_plan.specs.Branches.{Plan, node_branch, all_branch}
 use Rattle.merc_plan.proofs.Flat.{events}
 use Rattle.merc_plan.proofs.Judging.{flat}
+use Rattle.merc_plan.proofs.Shown.{Shown}
 use Rattle.merc_plan.proofs.Likes.{like_more}
 use Rattle.merc_plan.proofs.Holds.{keeps_once, keeps_end, quiet_once}
 use Rattle.merc_script_laws.specs.Parallel.{AreWithin, all_outputs}
@@ -98,7 +99,7 @@ module _ (known : Module) (types i : Instance) (declared : AreGoodTypes known.ty
         let wider : AreWithin outs (all_outputs ns) = sound.parallel.outputs.1 in
         let a = list.along later w s out b seen here hold full fit all (λ x h. wider x (within x h)) (sound_all known types i out b seen ns outs cat span sound) there f t r names counted in
         let go : BranchCourse = all_branch plan split course (makes later w s) hold in
-        wrap (Ends full here w s later outs hold) (answers_once outs cat) go (all_trace program calls ns full)
+        wrap (Shown program) (Ends full here w s later outs hold) (answers_once outs cat) go (all_trace program calls ns full)
         (like_more (Ends full here w s later (all_outputs ns) hold) (Ends full here w s later outs hold) (λ e q k. (fewer_outputs here w s later (all_outputs ns) outs hold e wider k.0, k.1)) (flat go) (events (all_trace program calls ns full)) a.0)
         a.1;
     uses = λ later w s out b seen here hold rights held g proper is_proper fit all sound can fine f r names q.
@@ -134,7 +135,7 @@ module _ (known : Module) (types i : Instance) (declared : AreGoodTypes known.ty
         let wider : AreWithin outs (outputs_of n) = sound.parallel.outputs.1 in
         let a = goes.along later w s out b seen here hold full fit all (λ x h. wider x (within x h)) (sound_inner known types i out b seen own n outs cat span sound) there f t r names counted in
         let go : BranchCourse = node_branch plan split course (make later w s) hold in
-        wrap (Ends full here w s later outs hold) (answers_once outs cat) go (node_trace program calls n full)
+        wrap (Shown program) (Ends full here w s later outs hold) (answers_once outs cat) go (node_trace program calls n full)
         (like_more (Ends full here w s later (outputs_of n) hold) (Ends full here w s later outs hold) (λ e q k. (fewer_outputs here w s later (outputs_of n) outs hold e wider k.0, k.1)) (flat go) (events (node_trace program calls n full)) a.0)
         a.1;
     uses = λ later w s out b seen here hold rights held g proper is_proper fit all sound can fine f r names q.

@@ -4,7 +4,7 @@ use Rattle.merc_order.specs.Bound.{among}
 use Rattle.merc_order_laws.proofs.Facts.{clash, or_cases, either_way, among_append}
 use Rattle.merc_value.specs.Value.{Value}
 use Rattle.merc_core.specs.Rights.{has}
-use Rattle.merc_par_split.specs.Rights.{Right, those}
+use Rattle.merc_rights.specs.Rights.{Right, those}
 use Rattle.merc_par_split.specs.Sites.{are_for}
 use Rattle.merc_plan.specs.Branch.{Hold, Gift, gift_at}
 use Rattle.merc_script_laws.proofs.Bonds.{Set, Here, Owed, signs, Names, here_behind, Used, Rightful}

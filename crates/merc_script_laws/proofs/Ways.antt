@@ -20,7 +20,7 @@ use Rattle.merc_program_laws.specs.ValueTypes.{HasType}
 use Rattle.merc_program_laws.proofs.Values.{Instance, same_some}
 use Rattle.merc_program_laws.proofs.Steps.{free_not}
 use Rattle.merc_core.specs.Rights.{has}
-use Rattle.merc_par_split.specs.Rights.{Right, those}
+use Rattle.merc_rights.specs.Rights.{Right, those}
 use Rattle.merc_par_split.specs.Sites.{are_for}
 use Rattle.merc_plan.specs.Branch.{HeldSignal, Hold, Gift}
 use Rattle.merc_script_laws.proofs.Bonds.{Set, Here, Owed, signs, Fit, Fine, After, Names, Ready, Rightful, Sound}

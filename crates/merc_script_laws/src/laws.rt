@@ -16,8 +16,8 @@ pub fn goals_stand_at_scripts()
     ensures { GoalsStandAtScripts }
 {}
 
-/// What the scripts of an `&`'s conjuncts join to is what its goals show one after the other, and its script, with
-/// theirs, is well formed.
+/// The scripts of each `&` that an accepted goal's script reaches join to what its goals show one after the other, from
+/// the values that are there or owed: in conjuncts too, in procedures that it calls, and where rights have moved into it.
 pub fn joins_show_traces()
     ensures { JoinsShowTraces }
 {}

@@ -1,5 +1,5 @@
 use Rattle.std.proofs.Common.{◌≡◌, map, take}
-use Rattle.merc_par_split.specs.Rights.{right_to}
+use Rattle.merc_rights.specs.Rights.{right_to}
 use Rattle.merc_par_split.proofs.placing.parent_waits.Given as goal
 
 abbrev pub invariant-loop-variable : goal.invariant-loop-variable

@@ -1,4 +1,4 @@
-use Rattle.std.proofs.Common.{length}
+use Rattle.std.proofs.Common.{length, refl}
 use Rattle.std.proofs.lemmas.Result.{on_ok_weaker}
 use Rattle.merc_par_split.proofs.PerformLaws.{place_step, enter_step, enter_lies, close_enough, waits_step, signals_step, close_step}
 use Rattle.merc_par_split.proofs.StepLaws.{at_with}
@@ -27,8 +27,8 @@ returns-in-Waits c =
 
 pub returns-in-Signals : goal.returns-in-Signals
 returns-in-Signals c =
-    on_ok_weaker c.put_signals.result (λ put. signals_step c.args.occurrences.now c.args.task c.in-Signals.rights c.as_slice-in-Signals.result.now c.in-Signals.span c.args.tasks.now
-    c.args.nodes.now c.put_signals.new.nodes c.args.sites.now.items c.in-Signals.is c.as_slice-in-Signals.ensures put) c.put_signals.ensures
+    on_ok_weaker c.put_signals.result (λ put. signals_step c.args.occurrences.now c.args.task c.in-Signals.signals c.in-Signals.signals c.in-Signals.span c.args.tasks.now
+    c.args.nodes.now c.put_signals.new.nodes c.args.sites.now.items c.in-Signals.is refl put) c.put_signals.ensures
 
 pub returns-in-Close : goal.returns-in-Close
 returns-in-Close c =

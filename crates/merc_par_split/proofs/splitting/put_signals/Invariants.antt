@@ -1,6 +1,6 @@
 use Rattle.std.proofs.Common.{◌≡◌, ◌++◌, map, take}
-use Rattle.merc_par_split.specs.Rights.{signal_at}
+use Rattle.merc_rights.specs.Rights.{signal_at}
 use Rattle.merc_par_split.proofs.splitting.put_signals.Given as goal
 
 abbrev pub invariant-loop-right : goal.invariant-loop-right
-invariant-loop-right l = l.nodes ≡ l.fn.nodes ++ map (signal_at l.span) (take l.right-index l.rights)
+invariant-loop-right l = l.nodes ≡ l.fn.nodes ++ map (signal_at l.span) (take l.right-index l.right-items)

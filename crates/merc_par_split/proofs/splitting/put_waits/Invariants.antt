@@ -1,5 +1,5 @@
 use Rattle.std.proofs.Common.{◌≡◌, ◌++◌, map, take}
-use Rattle.merc_par_split.specs.Rights.{wait_at}
+use Rattle.merc_rights.specs.Rights.{wait_at}
 use Rattle.merc_par_split.proofs.splitting.put_waits.Given as goal
 
 abbrev pub invariant-loop-right : goal.invariant-loop-right

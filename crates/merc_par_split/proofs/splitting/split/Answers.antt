@@ -1,25 +1,22 @@
-use Rattle.std.proofs.Common.{length, ap}
-use Rattle.merc_par_split.specs.Tasks.{after_all}
-use Rattle.merc_par_split.proofs.PerformLaws.{all_performed, the_first, first_lies, first_enough}
-use Rattle.merc_par_split.proofs.StepLaws.{at_with}
+use Rattle.std.proofs.Common.{length, sym, subst}
+use Rattle.std.proofs.lemmas.Result.{on_ok_weaker}
+use Rattle.merc_par_split.specs.Tasks.{AllLie}
+use Rattle.merc_par_split.proofs.PerformLaws.{first_lies, first_enough, first_performed}
 use Rattle.merc_par_split.proofs.splitting.split.Goals as goal
 
-pub loop-task-init : goal.loop-task-init
-loop-task-init c =
-    let first = the_first c.push.new.self c.new-tasks.result c.without_rights.result c.copy.result c.args.goal.now
-    c.in_ok-push.ensures c.new-tasks.ensures c.without_rights.ensures c.copy.ensures in
-    record {
-      same = ap (λ tasks. after_all tasks (at_with c.args.nodes.now c.args.sites.now.items)) first;
-      enough = first_enough c.args.goal.now c.push.new.self (length c.args.nodes.now) first;
-      lie = first_lies c.args.goal.now c.push.new.self first;
-    }
+pub perform_all-requires-clause-lie : goal.perform_all-requires-clause-lie
+perform_all-requires-clause-lie c =
+    subst (λ whole. AllLie whole c.in_ok-tasks.tasks) (sym c.in_ok-occurrences.ensures) (first_lies c.args.goal.now c.in_ok-tasks.tasks c.in_ok-tasks.ensures)
+
+pub perform_all-requires-clause-enough : goal.perform_all-requires-clause-enough
+perform_all-requires-clause-enough c = first_enough c.args.goal.now c.in_ok-tasks.tasks (length c.args.nodes.now) c.in_ok-tasks.ensures
 
 pub returns-clause-tree : goal.returns-clause-tree
 returns-clause-tree c =
-    (all_performed c.args.goal.now c.loop-task.tasks c.args.nodes.now c.loop-task.nodes c.args.sites.now.items c.loop-task.sites.items
-    c.in_default.ensures c.loop-task.invariant.same).0
+    on_ok_weaker c.perform_all.result (λ done. (first_performed c.args.goal.now c.in_ok-tasks.tasks c.args.nodes.now c.perform_all.new.nodes c.args.sites.now.items c.perform_all.new.sites.items
+    c.in_ok-tasks.ensures done).0) c.perform_all.ensures
 
 pub returns-clause-sites : goal.returns-clause-sites
 returns-clause-sites c =
-    (all_performed c.args.goal.now c.loop-task.tasks c.args.nodes.now c.loop-task.nodes c.args.sites.now.items c.loop-task.sites.items
-    c.in_default.ensures c.loop-task.invariant.same).1
+    on_ok_weaker c.perform_all.result (λ done. (first_performed c.args.goal.now c.in_ok-tasks.tasks c.args.nodes.now c.perform_all.new.nodes c.args.sites.now.items c.perform_all.new.sites.items
+    c.in_ok-tasks.ensures done).1) c.perform_all.ensures

@@ -1,7 +1,0 @@
-use Rattle.std.proofs.Common.{ℕ, List, [], ◌∷◌, take}
-use Rattle.merc_par_split.specs.Members.{AddsVariables}
-use Rattle.merc_par_split.specs.Rows.{Tells}
-use Rattle.merc_par_split.proofs.conjuncts.put_producer.Given as goal
-
-abbrev pub invariant-loop-variable : goal.invariant-loop-variable
-invariant-loop-variable l = (list : List ℕ) → Tells l.outputs (list ∷ []) → AddsVariables l.members.goals.items list l.moved l.producer (take l.variable-index l.variable-items) l.fn.found l.found

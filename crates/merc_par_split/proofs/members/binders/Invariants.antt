@@ -1,7 +1,0 @@
-use Rattle.std.proofs.Common.{◌≡◌, map, take}
-use Rattle.merc_par_split.specs.Rows.{pairs_from}
-use Rattle.merc_graded_tree.specs.Nodes.{outputs_of}
-use Rattle.merc_par_split.proofs.members.binders.Given as goal
-
-abbrev pub invariant-loop-number : goal.invariant-loop-number
-invariant-loop-number l = l.pairs.items ≡ pairs_from 0 (map outputs_of (take l.number l.goals))

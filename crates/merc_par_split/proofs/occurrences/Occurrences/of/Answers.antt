@@ -1,6 +1,0 @@
-use Rattle.merc_par_split.specs.Uses.{uses_of}
-use Rattle.merc_par_split.proofs.Indexes.{pairs_rise}
-use Rattle.merc_par_split.proofs.occurrences.Occurrences.of.Goals as goal
-
-pub of-requires : goal.of-requires
-of-requires c = pairs_rise c.in_ok-part_pairs.field-0.items (uses_of c.args.goal.now) c.in_ok-part_pairs.ensures

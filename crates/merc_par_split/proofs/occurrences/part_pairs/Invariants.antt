@@ -1,7 +1,0 @@
-use Rattle.std.proofs.Common.{◌≡◌, take}
-use Rattle.merc_par_split.specs.Rows.{pairs_from}
-use Rattle.merc_par_split.specs.Uses.{uses_of}
-use Rattle.merc_par_split.proofs.occurrences.part_pairs.Given as goal
-
-abbrev pub invariant-loop-index : goal.invariant-loop-index
-invariant-loop-index l = l.pairs.items ≡ pairs_from 0 (take l.index (uses_of l.goal))

@@ -1,0 +1,7 @@
+use Rattle.std.proofs.Common.{◌≡◌, ◌++◌, take}
+use Rattle.std.specs.List.{flat_map}
+use Rattle.merc_rights.specs.Members.{wait_shares}
+use Rattle.merc_rights.proofs.arms.put_shares.Given as goal
+
+abbrev pub invariant-loop-wait : goal.invariant-loop-wait
+invariant-loop-wait l = l.found.items ≡ l.fn.found.items ++ flat_map (wait_shares l.members.goals.items) (take l.wait-index l.waits)

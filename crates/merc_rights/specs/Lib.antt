@@ -1,0 +1,13 @@
+pub mod Rights
+pub mod RightsExamples
+pub mod Rows
+pub mod Uses
+pub mod RowsExamples
+pub mod Groups
+pub mod GroupsExamples
+pub mod Waits
+pub mod WaitsExamples
+pub mod Places
+pub mod PlacesExamples
+pub mod Members
+pub mod MembersExamples
