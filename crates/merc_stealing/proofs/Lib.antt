@@ -5,3 +5,6 @@ mod Naming
 mod Reaching
 mod StealingExamples
 mod Dealing
+mod Picking
+mod Giving
+mod Handing

@@ -20,6 +20,8 @@ use Rattle.merc_board.specs.declared.fork.Handover.{Handover}
 use Rattle.merc_board.specs.Rights.{Due, Owed, Rights, waits_into, signals_into}
 use Rattle.merc_board.specs.Going.{child_place}
 use Rattle.merc_stealing.specs.declared.types.Bed.{Bed}
+use Rattle.merc_stealing.specs.declared.branch.HeldWait.{HeldWait}
+use Rattle.merc_stealing.specs.declared.branch.HeldSignal.{HeldSignal}
 use Rattle.merc_stealing.specs.declared.branch.Hold.{Hold}
 use Rattle.merc_stealing.specs.Spots.{place, child_spot, fork_count}
 use Rattle.merc_stealing.specs.Beds.{IsMoored}
@@ -59,6 +61,25 @@ module _ {L : Type 0} where
     pub kid : IsKid table branch
     pub rooms : HasRoom room branch
     pub given : rights branch.hold ≡ has
+
+  -- what a branch has behind one right to wait more
+  pub record GotWait (right : HeldWait L) (old new : Branch L (Hold L)) : Type 0 where
+    pub load : new.load ≡ old.load
+    pub berth : new.hold.berth ≡ old.hold.berth
+    pub link : new.hold.link ≡ old.hold.link
+    pub woken : new.hold.woken ≡ old.hold.woken
+    pub signals : new.hold.signals ≡ old.hold.signals
+    pub items : new.hold.waits.items ≡ old.hold.waits.items ++ right ∷ []
+    pub capacity : vec_capacity new.hold.waits ≡ vec_capacity old.hold.waits
+
+  pub record GotSignal (right : HeldSignal L) (old new : Branch L (Hold L)) : Type 0 where
+    pub load : new.load ≡ old.load
+    pub berth : new.hold.berth ≡ old.hold.berth
+    pub link : new.hold.link ≡ old.hold.link
+    pub woken : new.hold.woken ≡ old.hold.woken
+    pub waits : new.hold.waits ≡ old.hold.waits
+    pub items : new.hold.signals.items ≡ old.hold.signals.items ++ right ∷ []
+    pub capacity : vec_capacity new.hold.signals ≡ vec_capacity old.hold.signals
 
   -- branches for these loads, where each child, numbered from 1, has its rights
   pub record AreFor (table : TableId) (room : ℕ) (loads : List L) (has : ℕ → Rights) (kids : List (Box (Branch L (Hold L)) Global)) : Type 0 where

@@ -10,3 +10,4 @@ pub mod Parents
 pub mod Memory
 pub mod Kids
 pub mod Sharing
+pub mod Picking
