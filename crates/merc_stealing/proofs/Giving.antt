@@ -89,12 +89,18 @@ module _ {L : Type 0} (table : TableId) (room : ℕ) where
   at_place loads has more place kids kid kid' are at change = record {
     count = length-set kids place kid' ∙ are.count;
     each = λ i x found. ⊎_elim
-        (λ (e : (i ≡ place) × (kid' ≡ x)). let m = are.each place kid at in (m.0, ap (slice_get loads) e.0 ∙ m.1,
-            subst (λ (r : Rights). IsFor table room m.0 r x.value) (sym (ap (λ b. if b then more else has (suc i)) (eq-eqb (suc i) (suc place) (ap suc e.0))))
-            (subst (λ (y : Box (Branch L (Hold L)) Global). IsFor table room m.0 more y.value) e.1 (change m.0 m.2))))
-        (λ (e : (i ≢ place) × (slice_get kids i ≡ Some x)). let m = are.each i x e.1 in (m.0, m.1,
-            subst (λ (r : Rights). IsFor table room m.0 r x.value) (sym (ap (λ b. if b then more else has (suc i)) (ne_eqb (suc i) (suc place) (λ same. e.0 (omega (arith, same))))))
-            (less_room m.0 (has (suc i)) x.value m.2)))
+        (λ (e : (i ≡ place) × (kid' ≡ x)). let m = are.each place kid at in (
+          m.0,
+          ap (slice_get loads) e.0 ∙ m.1,
+          subst (λ (r : Rights). IsFor table room m.0 r x.value) (sym (ap (λ b. if b then more else has (suc i)) (eq-eqb (suc i) (suc place) (ap suc e.0))))
+              (subst (λ (y : Box (Branch L (Hold L)) Global). IsFor table room m.0 more y.value) e.1 (change m.0 m.2)),
+        ))
+        (λ (e : (i ≢ place) × (slice_get kids i ≡ Some x)). let m = are.each i x e.1 in (
+          m.0,
+          m.1,
+          subst (λ (r : Rights). IsFor table room m.0 r x.value) (sym (ap (λ b. if b then more else has (suc i)) (ne_eqb (suc i) (suc place) (λ same. e.0 (omega (arith, same))))))
+              (less_room m.0 (has (suc i)) x.value m.2),
+        ))
         (set_cases kids place i kid' x found);
   }
 
@@ -139,9 +145,12 @@ module _ {L : Type 0} (table : TableId) (room : ℕ) where
       → AreFor table room loads (λ number. if number == child then more else has number) kids
   gives_none loads has more child kids none are = record {
     count = are.count;
-    each = λ i x at. let m = are.each i x at in let near = below kids i x at in (m.0, m.1,
-        subst (λ (r : Rights). IsFor table room m.0 r x.value) (sym (ap (λ b. if b then more else has (suc i)) (ne_eqb (suc i) child (λ same. ⊎_elim (λ (z : child ≡ 0). absurd (omega (arith, same, z))) (λ (f : length kids < child). absurd (omega (arith, same, f, near))) none))))
-        (less_room m.0 (has (suc i)) x.value m.2));
+    each = λ i x at. let m = are.each i x at in let near = below kids i x at in (
+      m.0,
+      m.1,
+      subst (λ (r : Rights). IsFor table room m.0 r x.value) (sym (ap (λ b. if b then more else has (suc i)) (ne_eqb (suc i) child (λ same. ⊎_elim (λ (z : child ≡ 0). absurd (omega (arith, same, z))) (λ (f : length kids < child). absurd (omega (arith, same, f, near))) none))))
+          (less_room m.0 (has (suc i)) x.value m.2),
+    );
   }
     where
       below : {A : Type 0} (l : List A) (i : ℕ) (x : A) → slice_get l i ≡ Some x → i < length l

@@ -37,14 +37,14 @@ module _ (moves : List Handover) (has : ℕ → Rights) where
   pub moved_wait : (ws : List Due) (due : Due) (child : ℕ) → child_for false due.variable moves ≡ Some child → (number : ℕ) → with_wait child due (with_waits moves ws has) number ≡ with_waits moves (ws ++ due ∷ []) has number
   moved_wait ws due child to number =
       let here : waits_into number moves (ws ++ due ∷ []) ≡ (if child == number then waits_into number moves ws ++ due ∷ [] else waits_into number moves ws) =
-          filter_more (λ right. goes_to number (child_for false right.variable moves)) ws due ∙ ap (λ o. if goes_to number o then waits_into number moves ws ++ due ∷ [] else waits_into number moves ws) to in
+      filter_more (λ right. goes_to number (child_for false right.variable moves)) ws due ∙ ap (λ o. if goes_to number o then waits_into number moves ws ++ due ∷ [] else waits_into number moves ws) to in
       dite (ℕ_discrete number child)
-        (λ same. ap (λ b. if b then record { waits = (with_waits moves ws has child).waits ++ due ∷ []; signals = (has child).signals } else with_waits moves ws has number) (eq-eqb number child same)
-            ∙ ap (λ n. record { waits = (with_waits moves ws has n).waits ++ due ∷ []; signals = (has n).signals }) (sym same)
-            ∙ ap (λ (l : List Due). record { waits = l; signals = (has number).signals }) (append_assoc (has number).waits (waits_into number moves ws) (due ∷ [])
-                ∙ ap (λ l. (has number).waits ++ l) (sym (here ∙ ap (λ b. if b then waits_into number moves ws ++ due ∷ [] else waits_into number moves ws) (eq-eqb child number (sym same))))))
-        (λ differs. ap (λ b. if b then record { waits = (with_waits moves ws has child).waits ++ due ∷ []; signals = (has child).signals } else with_waits moves ws has number) (ne_eqb number child differs)
-            ∙ ap (λ l. record { waits = (has number).waits ++ l; signals = (has number).signals }) (sym (here ∙ ap (λ b. if b then waits_into number moves ws ++ due ∷ [] else waits_into number moves ws) (ne_eqb child number (λ e. differs (sym e))))))
+      (λ same. ap (λ b. if b then record { waits = (with_waits moves ws has child).waits ++ due ∷ []; signals = (has child).signals } else with_waits moves ws has number) (eq-eqb number child same)
+      ∙ ap (λ n. record { waits = (with_waits moves ws has n).waits ++ due ∷ []; signals = (has n).signals }) (sym same)
+      ∙ ap (λ (l : List Due). record { waits = l; signals = (has number).signals }) (append_assoc (has number).waits (waits_into number moves ws) (due ∷ [])
+      ∙ ap (λ l. (has number).waits ++ l) (sym (here ∙ ap (λ b. if b then waits_into number moves ws ++ due ∷ [] else waits_into number moves ws) (eq-eqb child number (sym same))))))
+      (λ differs. ap (λ b. if b then record { waits = (with_waits moves ws has child).waits ++ due ∷ []; signals = (has child).signals } else with_waits moves ws has number) (ne_eqb number child differs)
+      ∙ ap (λ l. record { waits = (has number).waits ++ l; signals = (has number).signals }) (sym (here ∙ ap (λ b. if b then waits_into number moves ws ++ due ∷ [] else waits_into number moves ws) (ne_eqb child number (λ e. differs (sym e))))))
 
   -- one that stays
   pub kept_wait : (ws : List Due) (due : Due) → child_for false due.variable moves ≡ None → (number : ℕ) → with_waits moves ws has number ≡ with_waits moves (ws ++ due ∷ []) has number
@@ -55,14 +55,14 @@ module _ (moves : List Handover) (has : ℕ → Rights) where
   pub moved_signal : (ws : List Owed) (owed : Owed) (child : ℕ) → child_for true owed.variable moves ≡ Some child → (number : ℕ) → with_signal child owed (with_signals moves ws has) number ≡ with_signals moves (ws ++ owed ∷ []) has number
   moved_signal ws owed child to number =
       let here : signals_into number moves (ws ++ owed ∷ []) ≡ (if child == number then signals_into number moves ws ++ owed ∷ [] else signals_into number moves ws) =
-          filter_more (λ right. goes_to number (child_for true right.variable moves)) ws owed ∙ ap (λ o. if goes_to number o then signals_into number moves ws ++ owed ∷ [] else signals_into number moves ws) to in
+      filter_more (λ right. goes_to number (child_for true right.variable moves)) ws owed ∙ ap (λ o. if goes_to number o then signals_into number moves ws ++ owed ∷ [] else signals_into number moves ws) to in
       dite (ℕ_discrete number child)
-        (λ same. ap (λ b. if b then record { waits = (has child).waits; signals = (with_signals moves ws has child).signals ++ owed ∷ [] } else with_signals moves ws has number) (eq-eqb number child same)
-            ∙ ap (λ n. record { waits = (has n).waits; signals = (with_signals moves ws has n).signals ++ owed ∷ [] }) (sym same)
-            ∙ ap (λ (l : List Owed). record { waits = (has number).waits; signals = l }) (append_assoc (has number).signals (signals_into number moves ws) (owed ∷ [])
-                ∙ ap (λ l. (has number).signals ++ l) (sym (here ∙ ap (λ b. if b then signals_into number moves ws ++ owed ∷ [] else signals_into number moves ws) (eq-eqb child number (sym same))))))
-        (λ differs. ap (λ b. if b then record { waits = (has child).waits; signals = (with_signals moves ws has child).signals ++ owed ∷ [] } else with_signals moves ws has number) (ne_eqb number child differs)
-            ∙ ap (λ l. record { waits = (has number).waits; signals = (has number).signals ++ l }) (sym (here ∙ ap (λ b. if b then signals_into number moves ws ++ owed ∷ [] else signals_into number moves ws) (ne_eqb child number (λ e. differs (sym e))))))
+      (λ same. ap (λ b. if b then record { waits = (has child).waits; signals = (with_signals moves ws has child).signals ++ owed ∷ [] } else with_signals moves ws has number) (eq-eqb number child same)
+      ∙ ap (λ n. record { waits = (has n).waits; signals = (with_signals moves ws has n).signals ++ owed ∷ [] }) (sym same)
+      ∙ ap (λ (l : List Owed). record { waits = (has number).waits; signals = l }) (append_assoc (has number).signals (signals_into number moves ws) (owed ∷ [])
+      ∙ ap (λ l. (has number).signals ++ l) (sym (here ∙ ap (λ b. if b then signals_into number moves ws ++ owed ∷ [] else signals_into number moves ws) (eq-eqb child number (sym same))))))
+      (λ differs. ap (λ b. if b then record { waits = (has child).waits; signals = (with_signals moves ws has child).signals ++ owed ∷ [] } else with_signals moves ws has number) (ne_eqb number child differs)
+      ∙ ap (λ l. record { waits = (has number).waits; signals = (has number).signals ++ l }) (sym (here ∙ ap (λ b. if b then signals_into number moves ws ++ owed ∷ [] else signals_into number moves ws) (ne_eqb child number (λ e. differs (sym e))))))
 
   pub kept_signal : (ws : List Owed) (owed : Owed) → child_for true owed.variable moves ≡ None → (number : ℕ) → with_signals moves ws has number ≡ with_signals moves (ws ++ owed ∷ []) has number
   kept_signal ws owed to number = ap (λ l. record { waits = (has number).waits; signals = (has number).signals ++ l })

@@ -79,7 +79,7 @@ module _ {L : Type 0} where
   used_first first rest (Some i) used e =
       subst (λ (u : Option (Owed × List Owed)). Used (first ∷ rest) (Some (sooner_than first.consumer rest (Some i))) (Some (sooner_of (owed_of first) (map owed_of rest) u))) (sym e.3)
       (subst (λ (k : ℕ). Used (first ∷ rest) (Some (if is_sooner k first.consumer then suc i else 0)) (Some (if is_sooner e.0.consumer first.consumer then (owed_of e.0, owed_of first ∷ map owed_of (remove rest i)) else (owed_of first, map owed_of rest)))) (sym e.2)
-          (used_sooner (is_sooner e.0.consumer first.consumer) i first e.0 rest e.1 e.2))
+      (used_sooner (is_sooner e.0.consumer first.consumer) i first e.0 rest e.1 e.2))
 
   used_over : (first : HeldSignal L) (rest : List (HeldSignal L)) (found : Option ℕ) (used : Option (Owed × List Owed)) → Used rest found used
       → Used (first ∷ rest) (later found) (passed_over (owed_of first) used)
@@ -129,7 +129,7 @@ module _ {L : Type 0} where
   used_from variable place l d behind near is =
       ap (λ (o : Option ℕ). if (slice_index_or l place d).variable == variable then Some (either_used (slice_index_or l place d).consumer l place o) else o) is
       ∙ sym (ap (λ m. lifted place (signal_place variable m)) (dropped l place d near)
-          ∙ used_here ((slice_index_or l place d).variable == variable) place (slice_index_or l place d).consumer l (signal_place variable (drop (suc place) l)))
+      ∙ used_here ((slice_index_or l place d).variable == variable) place (slice_index_or l place d).consumer l (signal_place variable (drop (suc place) l)))
 
   pub used_behind : (variable place : ℕ) (l : List (HeldSignal L)) (right : HeldSignal L) (behind : Option ℕ) → place < length l → right ≡ slice_index_or l place right → behind ≡ lifted (suc place) (signal_place variable (drop (suc place) l))
       → not (right.variable == variable) ≡ true → behind ≡ lifted place (signal_place variable (drop place l))

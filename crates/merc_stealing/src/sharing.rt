@@ -65,7 +65,11 @@ pub(crate) fn give_wait<M: Load, N: Room>(kids: &mut Vec<Held<M>>, child: usize,
 }
 
 /// A right to signal more for a child, where there is one of this number.
-pub(crate) fn give_signal<M: Load, N: Room>(kids: &mut Vec<Held<M>>, child: usize, right: HeldSignal<M>)
+pub(crate) fn give_signal<M: Load, N: Room>(
+    kids: &mut Vec<Held<M>>,
+    child: usize,
+    right: HeldSignal<M>,
+)
     requires named { IsNamed N.table (producer_name right.end) }
     requires kids { (room : ℕ) × (loads : List M) × (has : ℕ → Rights) × AreFor N.table (room + 1) loads has kids.old.items }
     ensures given { (room : ℕ) (loads : List M) (has : ℕ → Rights) → AreFor N.table (room + 1) loads has kids.old.items → AreFor N.table room loads (with_signal child (owed_of right) has) kids.new.items }
