@@ -11,6 +11,7 @@ pub mod formed;
 pub mod freeing;
 pub mod making;
 pub mod mooring;
+pub mod moving;
 pub mod named;
 pub mod opening;
 pub mod placing;
