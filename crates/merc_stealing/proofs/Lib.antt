@@ -4,3 +4,7 @@ mod Joins
 mod Naming
 mod Reaching
 mod StealingExamples
+mod Dealing
+mod Picking
+mod Giving
+mod Handing

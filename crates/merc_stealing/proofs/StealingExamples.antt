@@ -1,6 +1,6 @@
 -- What the definitions of a stealing board say.
 use Rattle.std.proofs.Common.{◌≡◌, ℕ, true, false, List, [], ◌∷◌, refl, sym, ap, ◌∙◌, arith}
-use Rattle.std.specs.Prelude.{Option, Some, None}
+use Rattle.std.specs.Prelude.{Option, Some, None, if◌then◌else◌, ◌==◌}
 use Rattle.atomic_table.specs.Seated.{TableId}
 use Rattle.merc_value.specs.Block.{BlockData}
 use Rattle.merc_script.specs.declared.outcome.Outcome.TheVariants.{Ok as Fine, Raise, Limit, Starved, NoMemory}
@@ -16,6 +16,12 @@ use Rattle.merc_stealing.specs.Beds.{cell_name, IsNamed, IsMoored, EndsAs}
 use Rattle.merc_stealing.specs.Lying.{MayWake}
 use Rattle.merc_stealing.specs.Parents.{Near}
 use Rattle.merc_stealing.specs.Memory.{has_memory}
+use Rattle.merc_stealing.specs.declared.branch.HeldWait.{HeldWait}
+use Rattle.merc_stealing.specs.declared.branch.HeldSignal.{HeldSignal}
+use Rattle.merc_stealing.specs.Picking.{lifted, later, wait_place}
+use Rattle.merc_stealing.specs.Kids.{with_wait}
+use Rattle.merc_stealing.specs.Sharing.{cells_ahead, number_at}
+use Rattle.merc_board.specs.Rights.{no_rights}
 
 -- a root that makes a Tick, signals cell 6, makes a Tick and forks two children, and then waits for cell 7
 abbrev root : Script
@@ -92,3 +98,22 @@ wakes-without woken = woken
 -- no script of the root ends for want of memory
 pub memory-kept : (has_memory root ≡ true) × (has_memory (Ends NoMemory) ≡ false)
 memory-kept = (refl, refl)
+
+-- a place behind two others, and behind one more
+pub lifted-places : (lifted 2 (Some 3) ≡ Some 5) × (later (Some 3) ≡ Some 4) × (later (lifted 2 None) ≡ None)
+lifted-places = (refl, refl, refl)
+
+-- of two rights to wait the one for variable 6 is the second, and none is for variable 7
+pub wait-second : {L : Type 0} (first second : HeldWait L) → first.variable ≡ 5 → second.variable ≡ 6 → wait_place 0 6 (first ∷ second ∷ []) ≡ Some 1
+wait-second first second a b = ap (λ (x : ℕ × ℕ). if x.0 == 6 then Some 0 else (if x.1 == 6 then Some 1 else None)) (λ i. (a i, b i))
+
+pub wait-none : {L : Type 0} (first : HeldWait L) → first.variable ≡ 5 → wait_place 0 7 (first ∷ []) ≡ None
+wait-none first a = ap (λ (x : ℕ). if x == 7 then Some 0 else None) a
+
+-- child 2 is given a right, and child 1 is not
+pub given-second : (with_wait 2 (record { variable = 5; cell = 7 }) (λ number. no_rights) 2 ≡ record { waits = record { variable = 5; cell = 7 } ∷ []; signals = [] }) × (with_wait 2 (record { variable = 5; cell = 7 }) (λ number. no_rights) 1 ≡ no_rights)
+given-second = (refl, refl)
+
+-- the fork of the root has no cells, and a list's place that is not there has number 0
+pub cells-none : (cells_ahead root (at 0) ≡ []) × (number_at (4 ∷ 6 ∷ []) 1 ≡ 6) × (number_at (4 ∷ 6 ∷ []) 2 ≡ 0)
+cells-none = (refl, refl, refl)

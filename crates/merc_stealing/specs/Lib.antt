@@ -8,3 +8,6 @@ pub mod Taking
 pub mod Waiting
 pub mod Parents
 pub mod Memory
+pub mod Kids
+pub mod Sharing
+pub mod Picking

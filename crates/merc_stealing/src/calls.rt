@@ -68,6 +68,13 @@ fn wake<M: Load, N: Room>(lot: &Lot<M>, seat: &mut Seat<N>, bed: Bed<M>, woken: 
     );
 }
 
+// A branch is dropped that has no right to signal left.
+fn let_go<M: Load>(branch: Held<M>)
+    requires { branch.value.hold.signals.items ≡ [] }
+{
+    drop(branch);
+}
+
 impl<M: Load, N: Room> StealingBoard<M, N> {
     pub(crate) fn take<R: Wait>(&self, rt: &R, seat: &mut Seat<N>) -> Option<Held<M>>
         requires { ArePasses self.now.thieves.items seat.old.passes.items }
@@ -169,11 +176,17 @@ impl<M: Load, N: Room> StealingBoard<M, N> {
             keep_berth(&self.lot, seat, berth);
         }
         match branch.hold.place.take() {
-            Some(ticket) => match ticket.done(outcome) {
-                Some(finished) => Some(self.come_back(finished)),
-                None => None,
-            },
-            None => None,
+            Some(ticket) => {
+                let_go(branch);
+                match ticket.done(outcome) {
+                    Some(finished) => Some(self.come_back(finished)),
+                    None => None,
+                }
+            }
+            None => {
+                let_go(branch);
+                None
+            }
         }
     }
 
