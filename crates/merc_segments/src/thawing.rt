@@ -9,11 +9,12 @@ use merc_base::NoMemory;
 use merc_heap::Heap;
 use merc_value::{Block, Cell, Word, moved_all};
 
-/// Puts the values of a block's roots onto a heap, and gives a word for each, in order. Each cell of the block is put
-/// there once. Where memory is refused the heap is unchanged.
+/// Puts the values of a block's roots onto a heap, behind its cells, and gives a word for each, in order. Each cell of the block
+/// is put there once. Where memory is refused the heap is unchanged.
 pub fn thaw(block: &Block, heap: &mut Heap) -> Result<Vec<Word>, NoMemory>
     ensures words { IfOk result (λ words. AreWordsFor heap.new (root_values block.now) words.items) }
     ensures kept { OnOk result (Keeps (length heap.old) heap.old heap.new) }
+    ensures front { OnOk result (take (length heap.old) heap.new ≡ heap.old) }
     ensures err { OnErr result (heap.new ≡ heap.old) }
 {
     let mark = heap.mark();

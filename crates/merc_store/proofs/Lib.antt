@@ -19,3 +19,7 @@ pub mod DifferingLemmas
 pub mod SeveralLemmas
 pub mod RestoringLemmas
 pub mod StayingLemmas
+pub mod EmptyFrames
+pub mod FreezingLemmas
+pub mod FrozenExamples
+pub mod ThawingLemmas

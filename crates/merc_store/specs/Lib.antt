@@ -5,6 +5,8 @@ pub mod Effects
 pub mod EffectsExamples
 pub mod Fitting
 pub mod FittingExamples
+pub mod Frozen
+pub mod FrozenExamples
 pub mod Moves
 pub mod MovesExamples
 pub mod DataExamples

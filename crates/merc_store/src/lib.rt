@@ -5,6 +5,7 @@ pub mod arms;
 mod building;
 mod carrying;
 pub mod constants;
+pub mod freezing;
 pub mod moving;
 pub mod performing;
 pub mod returning;
@@ -12,6 +13,8 @@ pub mod several;
 mod splitting;
 pub mod store;
 mod testing;
+pub mod thawing;
 pub mod trying;
 
+pub use freezing::Frozen;
 pub use store::{Backed, Done, Store};
