@@ -96,6 +96,7 @@ impl<'a> Machine<'a> {
 
     /// How many more steps it may make.
     pub fn left(&self) -> u64
+        requires fits { all_left self.now ≤ 18446744073709551615 }
         ensures { result ≡ all_left self.now }
     {
         todo!()
@@ -103,6 +104,7 @@ impl<'a> Machine<'a> {
 
     /// The steps so far, those that joins brought among them.
     pub fn used(&self) -> u64
+        requires fits { all_left self.now ≤ 18446744073709551615 }
         ensures { result ≡ self.now.limit - all_left self.now }
     {
         todo!()
