@@ -28,6 +28,7 @@ pub mod LeftOver
 pub mod Linking
 pub mod LookedAt
 pub mod Marking
+pub mod Meeting
 pub mod Passing
 pub mod Pausing
 pub mod Performing
