@@ -28,7 +28,7 @@ pub mod LeftOver
 pub mod Linking
 pub mod LookedAt
 pub mod Marking
-pub mod Meeting
+pub mod MetAt
 pub mod Passing
 pub mod Pausing
 pub mod Performing
