@@ -45,6 +45,7 @@ pub mod Silent
 pub mod Slots
 pub mod Standings
 pub mod Starting
+pub mod Stopping
 pub mod Superinstructions
 pub mod Switching
 pub mod SwitchingFields
