@@ -5,6 +5,8 @@ ghost use Rattle.merc_value.specs.Block.{root_values};
 ghost use Rattle.merc_code.specs.declared.instruction.Instruction.{Instruction};
 ghost use Rattle.merc_code.specs.declared.instruction.Instruction.TheVariants.{Fork, Wait, Signal};
 ghost use Rattle.merc_course.specs.Course.{AtFork, AtWait, AtSignal, Course, Courses, Given, Joined, Meets, Passed, Reply, RunCourse};
+ghost use Rattle.merc_layout.specs.KnownConjuncts.{conjunct_at};
+ghost use Rattle.merc_layout.specs.declared.conjuncts.KnownConjunct.{KnownConjunct};
 ghost use Rattle.merc_meaning.specs.Trace.{RunEnd};
 ghost use Rattle.merc_machine.specs.Coming.{MeetsAt, all_left};
 ghost use Rattle.merc_machine.specs.Running.{Means, course_at, steps_in, stop_at, stop_by};
@@ -32,7 +34,8 @@ impl<'a> Machine<'a> {
     /// `NoMemory` where memory was refused.
     pub fn child(&self, alloc: Global, site: Site, number: usize) -> Result<Machine<'a>, NoMemory>
         requires at { MeetsAt self.now (Fork site) }
-        requires forked { (forked : Courses RunEnd) × (next : Reply → RunCourse) × Means self.now (Meets (AtFork site.number) forked next) × ((course : RunCourse) × (course_at forked number ≡ Some course)) }
+        requires means { (course : RunCourse) × Means self.now course }
+        requires there { (known : KnownConjunct) × (conjunct_at self.now.program.now.conjuncts site.number number ≡ Some known) }
         ensures means { IfOk result (λ child. (forked : Courses RunEnd) (next : Reply → RunCourse) → Means self.now (Meets (AtFork site.number) forked next)
             → (course : RunCourse) → course_at forked number ≡ Some course → Means child course) }
         ensures limit { IfOk result (λ child. (child.limit ≡ all_left self.now) × (all_left child ≡ all_left self.now)) }
