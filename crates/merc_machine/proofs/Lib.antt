@@ -35,6 +35,7 @@ pub mod Performing
 pub mod Places
 pub mod PlacesOfCalls
 pub mod Reading
+pub mod Ready
 pub mod Resulting
 pub mod Returning
 pub mod ReturningResults

@@ -1,19 +1,22 @@
 //! Where a machine meets others: what it hands on and what it is given between two runs.
-ghost use Rattle.std.specs.Prelude.{◌≡◌, ℕ, ◌+◌, ◌-◌, ◌≤◌, [], ◌∷◌, length, IfOk, OnOk, OnErr, Option, Some, true};
+ghost use Rattle.std.specs.Prelude.{◌≡◌, ℕ, ◌+◌, ◌-◌, ◌≤◌, [], ◌∷◌, length, IfOk, OnOk, OnErr, Option, Some, true, slice_get};
 ghost use Rattle.std.specs.Option.{is_some};
 ghost use Rattle.merc_value.specs.Value.{Value};
+ghost use Rattle.merc_store.specs.Fitting.{slot_value};
 ghost use Rattle.merc_value.specs.Block.{root_values};
 ghost use Rattle.merc_code.specs.declared.instruction.Instruction.{Instruction};
 ghost use Rattle.merc_code.specs.declared.instruction.Instruction.TheVariants.{Fork, Wait, Signal};
 ghost use Rattle.merc_course.specs.Course.{AtFork, AtWait, AtSignal, Course, Courses, Given, Joined, Meets, Passed, Reply, RunCourse};
 ghost use Rattle.merc_layout.specs.KnownConjuncts.{conjunct_at};
 ghost use Rattle.merc_meaning.specs.Trace.{RunEnd};
-ghost use Rattle.merc_machine.specs.Coming.{MeetsAt, all_left};
+ghost use Rattle.merc_machine.specs.Coming.{IsReady, MeetsAt, ProceedsFrom, all_left};
+ghost use Rattle.merc_load.specs.declared.loaded.Op.TheVariants.{Meet as MeetOp};
+ghost use Rattle.merc_machine.specs.declared.machine.Phase.TheVariants.{Running};
 ghost use Rattle.merc_machine.specs.Running.{Means, course_at, steps_in, stop_at, stop_by};
 ghost use Rattle.merc_machine.specs.declared.running.Stop.{Stop};
 ghost use Rattle.merc_machine.specs.declared.running.Stop.TheVariants.{Starved};
 
-use crate::machine::{Machine, Phase};
+use crate::machine::{Machine, Next, Phase};
 use crate::running::Stop;
 use merc_base::NoMemory;
 use merc_code::Instruction;
@@ -125,6 +128,69 @@ impl<'a> Machine<'a> {
         ensures some { (stop : Stop) → result ≡ Some stop → (instruction : Instruction) × MeetsAt self.now instruction × (stop ≡ stop_at instruction) }
         ensures at { (instruction : Instruction) → MeetsAt self.now instruction → result ≡ Some (stop_at instruction) }
     {
-        todo!()
+        match self.phase {
+            Phase::Running(place) => match self.program.op(place) {
+                Some(op) => self.stop_at_op(op),
+                None => None,
+            },
+            Phase::GoingBack | Phase::Answered(_) => None,
+        }
+    }
+
+    // The stop at an instruction of the machine, where it meets others there.
+    fn stop_at_op(&self, op: &Op) -> Option<Stop>
+        ensures some { (stop : Stop) → result ≡ Some stop → (instruction : Instruction) × (op.now ≡ MeetOp instruction) × IsReady self.now.store instruction × (stop ≡ stop_at instruction) }
+        ensures at { (instruction : Instruction) → op.now ≡ MeetOp instruction → IsReady self.now.store instruction → result ≡ Some (stop_at instruction) }
+    {
+        match op {
+            Op::Meet(instruction) => self.stop_before(instruction),
+            _ => None,
+        }
+    }
+
+    // The stop before an instruction, where the machine meets others there.
+    fn stop_before(&self, instruction: &Instruction) -> Option<Stop>
+        ensures some { (stop : Stop) → result ≡ Some stop → IsReady self.now.store instruction.now × (stop ≡ stop_at instruction.now) }
+        ensures ready { IsReady self.now.store instruction.now → result ≡ Some (stop_at instruction.now) }
+    {
+        match instruction {
+            Instruction::Fork(site) => Some(Stop::AtFork(*site)),
+            Instruction::Wait(variable) => Some(Stop::AtWait(*variable)),
+            Instruction::Signal(variable) => {
+                if self.has_word(*variable) {
+                    Some(Stop::AtSignal(*variable))
+                } else {
+                    None
+                }
+            }
+            _ => None,
+        }
+    }
+
+    // Whether a variable has a value; one of which the frame has no slot has none.
+    fn has_word(&self, variable: Var) -> bool
+        ensures { result ≡ is_some (slot_value self.now.store.cells (slice_get self.now.store.stacks.current variable)) }
+    {
+        match self.store.slot_if_there(variable) {
+            Some(slot) => slot.word().is_some(),
+            None => false,
+        }
+    }
+
+    // Stops before a fork, a wait or a signal; a signal whose variable has no value goes back.
+    pub(crate) fn meet(&self, place: usize, instruction: &Instruction) -> Next
+        requires op { slice_get self.now.program.now.ops.items place ≡ Some (MeetOp instruction.now) }
+        ensures { ProceedsFrom self.now (Running place) result self.now }
+    {
+        match instruction {
+            Instruction::Signal(variable) => {
+                if self.has_word(*variable) {
+                    Next::Meet(place)
+                } else {
+                    Next::Back
+                }
+            }
+            _ => Next::Meet(place),
+        }
     }
 }
