@@ -1,5 +1,5 @@
 -- Worked examples of frames in which code has room.
-use Rattle.std.specs.Prelude.{◌≡◌, ◌<◌, ℕ, zero, suc, List, [], ◌∷◌}
+use Rattle.std.specs.Prelude.{◌<◌, ℕ, zero, suc, List, [], ◌∷◌}
 use Rattle.std.proofs.Common.{arith}
 use Rattle.std.proofs.lemmas.List.Elements.{All-from_recursion, All-nil}
 use Rattle.merc_code.specs.declared.instruction.Instruction.TheVariants.{Mark, Return, Fork, Close}
