@@ -110,8 +110,8 @@ same-some course other e = cc
 course-of : (codes : Codes) (states : List State) (forked : Courses RunEnd) → YieldAllLean codes states forked → (number : ℕ) (course : RunCourse) → course_at forked number ≡ Some course
     → (state : State) × (slice_get states number ≡ Some state) × YieldsLean codes state course
 course-of codes _ _ yield_none number course at = absurd cc
-course-of codes _ _ (yield_more state states first courses y ys) zero course at = (state, refl, subst (YieldsLean codes state) (same-some first course at) y)
-course-of codes _ _ (yield_more state states first courses y ys) (suc number) course at = course-of codes states courses ys number course at
+course-of codes _ _ (yield_more state states first others y ys) zero course at = (state, refl, subst (YieldsLean codes state) (same-some first course at) y)
+course-of codes _ _ (yield_more state states first others y ys) (suc number) course at = course-of codes states others ys number course at
 
 forked-at : (conjuncts : List ConjunctCode) (env : Env) (left number : ℕ) (state : State) → slice_get (forked_at conjuncts env left) number ≡ Some state
     → (conjunct : ConjunctCode) × (slice_get conjuncts number ≡ Some conjunct) × (state ≡ At conjunct.code (only conjunct.used env) [] [] [] left)
