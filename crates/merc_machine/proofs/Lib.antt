@@ -37,6 +37,7 @@ pub mod Performing
 pub mod Places
 pub mod PlacesOfCalls
 pub mod Reading
+pub mod Ready
 pub mod Resulting
 pub mod Returning
 pub mod ReturningResults
@@ -47,6 +48,7 @@ pub mod Silent
 pub mod Slots
 pub mod Standings
 pub mod Starting
+pub mod Stopping
 pub mod Superinstructions
 pub mod Switching
 pub mod SwitchingFields
