@@ -19,7 +19,8 @@ use Rattle.merc_layout.specs.KnownConjuncts.{conjunct_at}
 use Rattle.merc_layout.specs.declared.conjuncts.KnownConjunct.{KnownConjunct}
 use Rattle.merc_layout.specs.declared.entries.Entry.{Entry}
 use Rattle.merc_frames.specs.Rooms.{AreSlots}
-use Rattle.merc_load.specs.Loaded.{HasConjunct, IsConjunctEntry, IsLoaded, StandsAt}
+use Rattle.merc_load.specs.declared.loaded.Loaded.{Loaded}
+use Rattle.merc_load.specs.Loaded.{IsConjunctEntry, IsLoaded, StandsAt}
 use Rattle.merc_store.specs.Fitting.{FitsFrame}
 use Rattle.merc_store.specs.Frozen.{FrozenData, Freezes, OpensWith, frozen_of, with_value}
 use Rattle.merc_machine.specs.declared.machine.Machine.{Machine}
@@ -27,7 +28,7 @@ use Rattle.merc_machine.specs.declared.machine.Phase.TheVariants.{Running}
 use Rattle.merc_machine.specs.Standing.{CallersStand, ChoicesStand, Runs, Stands, none}
 use Rattle.merc_machine.specs.Coming.{MeetsAt, all_left}
 use Rattle.merc_machine.specs.Running.{Means, course_at}
-use Rattle.merc_machine.proofs.MetAt.{conjunct-at, met-at, met-fork}
+use Rattle.merc_machine.proofs.MetAt.{Met, conjunct-at, met-at, met-fork}
 
 same-some : {A : Type 0} (one other : A) → Some one ≡ Some other → one ≡ other
 same-some one other e = cc
@@ -56,117 +57,106 @@ lent-of P [] number conjunct found all = absurd cc
 lent-of P (first ∷ rest) zero conjunct found all = subst (λ (c : ConjunctCode). All P c.used) (same-some first conjunct found) (all-left-of P first.used (used_by rest) all)
 lent-of P (first ∷ rest) (suc number) conjunct found all = lent-of P rest number conjunct found (all-right-of P first.used (used_by rest) all)
 
--- What a machine that stands at a fork tells of a conjunct that has this course.
-pub record Forked (machine : Machine) (site : Site) (number : ℕ) (course : RunCourse) : Type 0 where
-  pub codes : Codes
-  pub query : Code
-  pub entry_of : Procedure → Entry
-  pub loaded : IsLoaded machine.program.now codes entry_of query
-  pub conjunct : ConjunctCode
-  pub has : HasConjunct machine.program.now codes entry_of site.number number conjunct
-  pub count : ℕ
-  pub env : Env
-  pub marks : List ℕ
-  pub frame : FitsFrame machine.store.cells count machine.store.stacks.current env marks
-  pub within : All (λ (variable : ℕ). variable < count) conjunct.used
-  pub yields : YieldsLean codes (At conjunct.code (only conjunct.used env) [] [] [] (all_left machine)) course
+-- Given is a machine that stands at a fork, and a conjunct of it that is known.
+module _ (machine : Machine) (site : Site) (ahead : RunCourse) (m : Met machine (Fork site) ahead) (number : ℕ) (conjunct : ConjunctCode) (listed : slice_get (m.codes.conjuncts site.number) number ≡ Some conjunct)
+    (known : KnownConjunct) (found : conjunct_at machine.program.now.conjuncts site.number number ≡ Some known) where
+  entry-is : IsConjunctEntry machine.program.now m.codes m.entry_of known conjunct
+  entry-is =
+      let has = m.loaded.conjuncts site.number number conjunct listed in
+      subst (λ (k : KnownConjunct). IsConjunctEntry machine.program.now m.codes m.entry_of k conjunct) (same-some has.known known (sym has.found ∙ found)) has.is
 
--- Given is a machine that stands at a fork, and has a course before it.
-module _ (machine : Machine) (site : Site) (at : MeetsAt machine (Fork site)) (forked : Courses RunEnd) (next : Reply → RunCourse) (means : Means machine (Meets (AtFork site.number) forked next))
-    (number : ℕ) (course : RunCourse) (there : course_at forked number ≡ Some course) where
-  pub forked-there : Forked machine site number course
-  forked-there =
-      let m = met-at machine (Fork site) (Meets (AtFork site.number) forked next) means.stands_before at in
-      let conjuncts = m.codes.conjuncts site.number in
-      let all = (met-fork machine site forked next m).0 in
-      let c = conjunct-at m.codes conjuncts m.env (all_left machine) forked all number course there in
-      let own = λ (instruction : Instruction). All (λ (variable : ℕ). variable < m.runs.stands.variables) (lent_to m.codes.conjuncts instruction) in
-      let lends : All (λ (variable : ℕ). variable < m.runs.stands.variables) (used_by conjuncts) = All-head own (Fork site) m.rest m.runs.stands.position.lends in
-      record {
-        codes = m.codes;
-        query = m.query;
-        entry_of = m.entry_of;
-        loaded = m.loaded;
-        conjunct = c.0;
-        has = m.loaded.conjuncts site.number number c.0 c.1;
-        count = m.runs.stands.variables;
-        env = m.env;
-        marks = m.marks;
-        frame = m.runs.stands.frame;
-        within = lent-of (λ (variable : ℕ). variable < m.runs.stands.variables) conjuncts number c.0 c.1 lends;
-        yields = c.2;
-      }
+  -- What it uses are variables of the frame that forks it ..
+  used-within : All (λ (variable : ℕ). variable < m.runs.stands.variables) known.used
+  used-within =
+      let below = λ (variable : ℕ). variable < m.runs.stands.variables in
+      let own = λ (instruction : Instruction). All below (lent_to m.codes.conjuncts instruction) in
+      let lends : All below (used_by (m.codes.conjuncts site.number)) = All-head own (Fork site) m.rest m.runs.stands.position.lends in
+      subst (All below) (sym entry-is.used_are) (lent-of below (m.codes.conjuncts site.number) number conjunct listed lends)
 
-  -- The conjunct is known.
-  pub not-unknown : conjunct_at machine.program.now.conjuncts site.number number ≡ None → ⊥
-  not-unknown unknown = let found = forked-there.has.found in absurd cc
+  used-have-slots : AreSlots (length machine.store.stacks.current) known.used
+  used-have-slots =
+      let room = m.runs.stands.frame.room in
+      All-weaker (λ (variable : ℕ). variable < m.runs.stands.variables) (λ (slot : ℕ). slot < length machine.store.stacks.current) (λ variable below. omega (arith, below, room)) known.used used-within
 
-  module _ (known : KnownConjunct) (found : conjunct_at machine.program.now.conjuncts site.number number ≡ Some known) where
-    entry-is : IsConjunctEntry machine.program.now forked-there.codes forked-there.entry_of known forked-there.conjunct
-    entry-is =
-        let f = forked-there in
-        subst (λ (k : KnownConjunct). IsConjunctEntry machine.program.now f.codes f.entry_of k f.conjunct) (same-some f.has.known known (sym f.has.found ∙ found)) f.has.is
+  module _ (frozen : FrozenData) (freezes : Freezes machine.store known.used frozen) where
+    frozen-is : frozen ≡ frozen_of known.used m.env
+    frozen-is = freezes.is m.runs.stands.variables m.env m.marks m.runs.stands.frame used-within
 
-    used-within : All (λ (variable : ℕ). variable < forked-there.count) known.used
-    used-within = subst (All (λ (variable : ℕ). variable < forked-there.count)) (sym entry-is.used_are) forked-there.within
+    -- .. and of its own.
+    used-has-room : All (λ (variable : ℕ). variable < entry-is.variables) known.used
+    used-has-room = subst (All (λ (variable : ℕ). variable < entry-is.variables)) (sym entry-is.used_are) entry-is.used_are_there
 
-    -- what it uses are variables of the frame that forks it ..
-    pub used-are-slots : AreSlots (length machine.store.stacks.current) known.used
-    used-are-slots =
-        let f = forked-there in
-        let room = f.frame.room in
-        All-weaker (λ (variable : ℕ). variable < f.count) (λ (slot : ℕ). slot < length machine.store.stacks.current) (λ variable below. omega (arith, below, room)) known.used used-within
+    frozen-have-slots : AreSlots known.entry.size frozen.variables
+    frozen-have-slots =
+        let room = entry-is.room in
+        let size = known.entry.size in
+        let below = λ (variable : ℕ). variable < entry-is.variables in
+        subst (λ (f : FrozenData). AreSlots size f.variables) (sym frozen-is)
+        (All-weaker below (λ (slot : ℕ). slot < size) (λ variable h. omega (arith, h, room)) (frozen_of known.used m.env).variables (frozen-within below known.used m.env used-has-room))
 
-    module _ (frozen : FrozenData) (freezes : Freezes machine.store known.used frozen) where
-      frozen-is : frozen ≡ frozen_of known.used forked-there.env
-      frozen-is = let f = forked-there in freezes.is f.count f.env f.marks f.frame used-within
+    -- Its machine has before it the course that its code makes.
+    means-course : (child : Machine) → OpensWith child.store known.entry.size frozen → child.program.now ≡ machine.program.now → child.phase ≡ Running known.entry.place
+        → child.left ≡ 0 → child.later ≡ all_left machine → child.over ≡ None → (course : RunCourse) → YieldsLean m.codes (At conjunct.code (only conjunct.used m.env) [] [] [] (all_left machine)) course
+        → Means child course
+    means-course child opens program phase left later over course yields =
+        let is = entry-is in
+        let ops = child.program.now.ops.items in
+        let cells = child.store.cells in
+        let slots = child.store.stacks.current in
+        let env = only conjunct.used m.env in
+        let state = At conjunct.code env [] [] [] (all_left machine) in
+        let stands = subst (λ (p : Loaded). StandsAt p.ops.items m.codes m.entry_of known.entry.place known.entry.size is.variables None conjunct.code) (sym program) is.stands in
+        let frame = opens.fits known.used m.env frozen-is is.variables is.room used-has-room in
+        let runs : Runs ops m.codes m.entry_of known.entry.place child.store conjunct.code env [] [] [] = record {
+              own = None;
+              stands = record {
+                variables = is.variables;
+                position = subst (λ n. StandsAt ops m.codes m.entry_of known.entry.place n is.variables None conjunct.code) (sym opens.room) stands;
+                frame = subst (λ (used : List ℕ). FitsFrame cells is.variables slots (only used m.env) []) is.used_are frame;
+              };
+              callers_stand = subst (λ frames. CallersStand ops m.codes m.entry_of cells None frames []) (sym opens.callers) none;
+              choices_stand = subst (λ frames. ChoicesStand ops m.codes m.entry_of cells frames []) (sym opens.choices) (none cells);
+            } in
+        record {
+          stands_before = record {
+            codes = m.codes;
+            query = m.query;
+            entry_of = m.entry_of;
+            loaded = subst (λ (p : Loaded). IsLoaded p m.codes m.entry_of m.query) (sym program) m.loaded;
+            state = state;
+            stands = subst (λ p. Stands ops m.codes m.entry_of p child.store (all_left child) state) (sym phase) (runs, omega (arith, left, later));
+            yields = yields;
+          };
+          over = over;
+          rests = left;
+        }
 
-      used-is-room : All (λ (variable : ℕ). variable < entry-is.variables) known.used
-      used-is-room = subst (All (λ (variable : ℕ). variable < entry-is.variables)) (sym entry-is.used_are) entry-is.used_are_there
+-- Given is a machine that stands at a fork, with a course before it, and a conjunct that is known.
+module _ (machine : Machine) (site : Site) (at : MeetsAt machine (Fork site)) (ahead : RunCourse) (means : Means machine ahead) (number : ℕ) (known : KnownConjunct)
+    (found : conjunct_at machine.program.now.conjuncts site.number number ≡ Some known) where
+  -- What it uses has slots ..
+  pub used-slots : AreSlots (length machine.store.stacks.current) known.used
+  used-slots =
+      let m = met-at machine (Fork site) ahead means.stands_before at in
+      let listed = m.loaded.no_others site.number number known found in
+      used-have-slots machine site ahead m number listed.0 listed.1 known found
 
-      -- .. and of its own
-      pub frozen-are-slots : AreSlots known.entry.size frozen.variables
-      frozen-are-slots =
-          let room = entry-is.room in
-          let size = known.entry.size in
-          let are = frozen-within (λ (variable : ℕ). variable < entry-is.variables) known.used forked-there.env used-is-room in
-          subst (λ (f : FrozenData). AreSlots size f.variables) (sym frozen-is)
-          (All-weaker (λ (variable : ℕ). variable < entry-is.variables) (λ (slot : ℕ). slot < size) (λ variable below. omega (arith, below, room)) (frozen_of known.used forked-there.env).variables are)
+  -- .. and so has what was copied.
+  pub frozen-slots : (frozen : FrozenData) → Freezes machine.store known.used frozen → AreSlots known.entry.size frozen.variables
+  frozen-slots frozen freezes =
+      let m = met-at machine (Fork site) ahead means.stands_before at in
+      let listed = m.loaded.no_others site.number number known found in
+      frozen-have-slots machine site ahead m number listed.0 listed.1 known found frozen freezes
 
-      -- Its machine has its course before it.
-      pub child-means : (child : Machine) → OpensWith child.store known.entry.size frozen → child.program.now ≡ machine.program.now → child.phase ≡ Running known.entry.place
-          → child.left ≡ 0 → child.later ≡ machine.later → child.over ≡ None → Means child course
-      child-means child opens program phase left later over =
-          let f = forked-there in
-          let is = entry-is in
-          let ops = child.program.now.ops.items in
-          let cells = child.store.cells in
-          let slots = child.store.stacks.current in
-          let env = only f.conjunct.used f.env in
-          let loaded = subst (λ p. IsLoaded p f.codes f.entry_of f.query) (sym program) f.loaded in
-          let stands = subst (λ p. StandsAt p.ops.items f.codes f.entry_of known.entry.place known.entry.size is.variables None f.conjunct.code) (sym program) is.stands in
-          let frame = subst (λ used. FitsFrame cells is.variables slots (only used f.env) []) is.used_are (opens.fits known.used f.env frozen-is is.variables is.room used-is-room) in
-          let rests = means.rests in
-          let runs : Runs ops f.codes f.entry_of known.entry.place child.store f.conjunct.code env [] [] [] = record {
-                own = None;
-                stands = record {
-                  variables = is.variables;
-                  position = subst (λ n. StandsAt ops f.codes f.entry_of known.entry.place n is.variables None f.conjunct.code) (sym opens.room) stands;
-                  frame = frame;
-                };
-                callers_stand = subst (λ frames. CallersStand ops f.codes f.entry_of cells None frames []) (sym opens.callers) none;
-                choices_stand = subst (λ frames. ChoicesStand ops f.codes f.entry_of cells frames []) (sym opens.choices) (none cells);
-              } in
-          record {
-            stands_before = record {
-              codes = f.codes;
-              query = f.query;
-              entry_of = f.entry_of;
-              loaded = loaded;
-              state = At f.conjunct.code env [] [] [] (all_left machine);
-              stands = subst (λ p. Stands ops f.codes f.entry_of p child.store (all_left child) (At f.conjunct.code env [] [] [] (all_left machine))) (sym phase) (runs, omega (arith, rests, left, later));
-              yields = f.yields;
-            };
-            over = over;
-            rests = left;
-          }
+-- A conjunct's machine has its course before it.
+pub child-means : (machine : Machine) (site : Site) → MeetsAt machine (Fork site) → (number : ℕ) (known : KnownConjunct) → conjunct_at machine.program.now.conjuncts site.number number ≡ Some known
+    → (frozen : FrozenData) → Freezes machine.store known.used frozen → (child : Machine) → OpensWith child.store known.entry.size frozen → child.program.now ≡ machine.program.now
+    → child.phase ≡ Running known.entry.place → child.left ≡ 0 → child.later ≡ machine.later → child.over ≡ None
+    → (forked : Courses RunEnd) (next : Reply → RunCourse) → Means machine (Meets (AtFork site.number) forked next) → (course : RunCourse) → course_at forked number ≡ Some course → Means child course
+child-means machine site at number known found frozen freezes child opens program phase left later over forked next means course there =
+    let ahead = Meets (AtFork site.number) forked next in
+    let m = met-at machine (Fork site) ahead means.stands_before at in
+    let conjuncts = m.codes.conjuncts site.number in
+    let c = conjunct-at m.codes conjuncts m.env (all_left machine) forked (met-fork machine site forked next m).0 number course there in
+    let rests = means.rests in
+    means-course machine site ahead m number c.0 c.1 known found frozen freezes child opens program phase left (omega (arith, later, rests)) over course c.2
