@@ -14,6 +14,8 @@ pub mod Deciding
 pub mod Delivering
 pub mod Entering
 pub mod Fitting
+pub mod Forking
+pub mod Giving
 pub mod Going
 pub mod GoingBack
 pub mod Growing

@@ -1,5 +1,5 @@
 //! Where a machine meets others: what it hands on and what it is given between two runs.
-ghost use Rattle.std.specs.Prelude.{◌≡◌, ℕ, ◌+◌, ◌-◌, ◌≤◌, [], ◌∷◌, length, IfOk, OnOk, OnErr, Option, Some, true, slice_get};
+ghost use Rattle.std.specs.Prelude.{◌≡◌, ℕ, suc, ◌+◌, ◌-◌, ◌≤◌, [], ◌∷◌, length, IfOk, OnOk, OnErr, Option, Some, true, slice_get};
 ghost use Rattle.std.specs.Option.{is_some};
 ghost use Rattle.merc_value.specs.Value.{Value};
 ghost use Rattle.merc_store.specs.Fitting.{slot_value};
@@ -43,7 +43,23 @@ impl<'a> Machine<'a> {
             → (course : RunCourse) → course_at forked number ≡ Some course → Means child course) }
         ensures limit { IfOk result (λ child. (child.limit ≡ all_left self.now) × (all_left child ≡ all_left self.now)) }
     {
-        todo!()
+        match self.program.conjunct(site, number) {
+            Some(known) => {
+                let frozen = self.store.freeze(alloc, known.used.as_slice())?;
+                let mut store = Store::new(alloc);
+                store.open_with(known.entry.size, &frozen)?;
+                Ok(Machine {
+                    program: self.program,
+                    store,
+                    phase: Phase::Running(known.entry.place),
+                    left: 0,
+                    later: self.later,
+                    limit: self.later,
+                    over: None,
+                })
+            }
+            None => unreachable!(),
+        }
     }
 
     /// Whether a conjunct of this number, from 0, is forked at the site.
@@ -64,7 +80,20 @@ impl<'a> Machine<'a> {
         ensures ends { (stop : Stop) → stop_by outcome ≡ Some stop → self.new ≡ record self.old { later = all_left self.old - steps_in outcome; over = Some stop } }
         ensures spends { (all_left self.new + steps_in outcome ≡ all_left self.old) × (self.new.limit ≡ self.old.limit) }
     {
-        todo!()
+        let there = self.next_place();
+        match outcome {
+            Outcome::Ok(steps) => {
+                self.later -= steps;
+                self.phase = Phase::Running(there);
+            }
+            Outcome::Raise(text, steps) => {
+                self.later -= steps;
+                self.over = Some(Stop::Raised(text));
+            }
+            Outcome::Limit => self.over = Some(Stop::LimitPassed),
+            Outcome::Starved => self.over = Some(Stop::Starved),
+            Outcome::NoMemory => self.over = Some(Stop::NoMemory),
+        }
     }
 
     /// Gives the variable for which the machine waits the value of a block's only root, and goes on behind the wait.
@@ -81,7 +110,11 @@ impl<'a> Machine<'a> {
         ensures same_steps { OnOk result ((all_left self.new ≡ all_left self.old) × (self.new.limit ≡ self.old.limit)) }
         ensures err { OnErr result (self.new ≡ self.old) }
     {
-        todo!()
+        let there = self.next_place();
+        self.store.sound();
+        self.store.give_value(variable, value)?;
+        self.phase = Phase::Running(there);
+        Ok(())
     }
 
     /// Ends the machine, which waits for a value that does not come. Takes no memory.
@@ -104,7 +137,10 @@ impl<'a> Machine<'a> {
         ensures same_steps { OnOk result ((all_left self.new ≡ all_left self.old) × (self.new.limit ≡ self.old.limit)) }
         ensures err { OnErr result (self.new ≡ self.old) }
     {
-        todo!()
+        let there = self.next_place();
+        let block = self.store.freeze_one(alloc, variable)?;
+        self.phase = Phase::Running(there);
+        Ok(block)
     }
 
     /// How many more steps it may make.
@@ -112,7 +148,7 @@ impl<'a> Machine<'a> {
         requires fits { all_left self.now ≤ 18446744073709551615 }
         ensures { result ≡ all_left self.now }
     {
-        todo!()
+        u64::from(self.left) + self.later
     }
 
     /// The steps so far, those that joins brought among them.
@@ -120,7 +156,20 @@ impl<'a> Machine<'a> {
         requires fits { all_left self.now ≤ 18446744073709551615 }
         ensures { result ≡ self.now.limit - all_left self.now }
     {
-        todo!()
+        self.limit.saturating_sub(self.left())
+    }
+
+    // The place behind the instruction at which it meets others.
+    fn next_place(&self) -> usize
+        requires { (instruction : Instruction) × MeetsAt self.now instruction }
+        ensures { (place : ℕ) → self.now.phase ≡ Running place → result ≡ suc place }
+    {
+        // The length tells that the place behind is a number.
+        let _ = self.program.len();
+        match self.phase {
+            Phase::Running(place) => place + 1,
+            Phase::GoingBack | Phase::Answered(_) => unreachable!(),
+        }
     }
 
     // The stop at the instruction at which the machine meets others; `None` where it stands at none.
