@@ -80,7 +80,7 @@ impl<'a> Machine<'a> {
         ensures ends { (stop : Stop) → stop_by outcome ≡ Some stop → self.new ≡ record self.old { later = all_left self.old - steps_in outcome; over = Some stop } }
         ensures spends { (all_left self.new + steps_in outcome ≡ all_left self.old) × (self.new.limit ≡ self.old.limit) }
     {
-        let there = self.next_place();
+        let there = self.place_behind_meeting();
         match outcome {
             Outcome::Ok(steps) => {
                 self.later -= steps;
@@ -110,7 +110,7 @@ impl<'a> Machine<'a> {
         ensures same_steps { OnOk result ((all_left self.new ≡ all_left self.old) × (self.new.limit ≡ self.old.limit)) }
         ensures err { OnErr result (self.new ≡ self.old) }
     {
-        let there = self.next_place();
+        let there = self.place_behind_meeting();
         self.store.sound();
         self.store.give_value(variable, value)?;
         self.phase = Phase::Running(there);
@@ -137,7 +137,7 @@ impl<'a> Machine<'a> {
         ensures same_steps { OnOk result ((all_left self.new ≡ all_left self.old) × (self.new.limit ≡ self.old.limit)) }
         ensures err { OnErr result (self.new ≡ self.old) }
     {
-        let there = self.next_place();
+        let there = self.place_behind_meeting();
         let block = self.store.freeze_one(alloc, variable)?;
         self.phase = Phase::Running(there);
         Ok(block)
@@ -160,7 +160,7 @@ impl<'a> Machine<'a> {
     }
 
     // The place behind the instruction at which it meets others.
-    fn next_place(&self) -> usize
+    fn place_behind_meeting(&self) -> usize
         requires { (instruction : Instruction) × MeetsAt self.now instruction }
         ensures { (place : ℕ) → self.now.phase ≡ Running place → result ≡ suc place }
     {
