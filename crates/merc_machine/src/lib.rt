@@ -8,6 +8,7 @@ mod combined;
 mod conditions;
 mod controlling;
 pub mod machine;
+pub mod meeting;
 mod results;
 pub mod running;
 mod stepping;
