@@ -1,16 +1,13 @@
 -- Steps at instructions at which a machine meets others.
-use Rattle.std.proofs.Common.{◌≡◌, ℕ, ◌<◌, List, [], length, true, false, Option, Some, None, slice_get, refl, ap, ◌∙◌, subst}
-use Rattle.std.specs.Option.{is_some, option_map}
+use Rattle.std.proofs.Common.{◌≡◌, ℕ, ◌<◌, [], length, true, false, Option, Some, None, slice_get, refl, ap, ◌∙◌, subst}
+use Rattle.std.specs.Option.{is_some}
 use Rattle.std.proofs.lemmas.List.Elements.{All-head}
 use Rattle.merc_value.specs.Value.{Value}
-use Rattle.merc_value.specs.Block.{CellData, value_of}
 use Rattle.merc_meaning.specs.Steps.{value_at}
 use Rattle.merc_code.specs.declared.instruction.Instruction.{Instruction}
-use Rattle.merc_code.specs.declared.instruction.Instruction.TheVariants.{Fork, Wait, Signal}
+use Rattle.merc_code.specs.declared.instruction.Instruction.TheVariants.{Signal}
 use Rattle.merc_code.specs.Steps.{Codes, signals}
 use Rattle.merc_graded_tree.specs.declared.basic.Procedure.{Procedure}
-use Rattle.merc_frames.specs.declared.slot.Slot.{Slot}
-use Rattle.merc_frames.specs.Slots.{word_in}
 use Rattle.merc_layout.specs.declared.entries.Entry.{Entry}
 use Rattle.merc_layout.specs.Frames.{FitsInstruction}
 use Rattle.merc_load.specs.declared.loaded.Op.TheVariants.{Meet as MeetOp}
@@ -18,23 +15,14 @@ use Rattle.merc_store.specs.Data.{StoreData}
 use Rattle.merc_store.specs.Fitting.{slot_value}
 use Rattle.merc_machine.specs.declared.machine.Machine.{Machine}
 use Rattle.merc_machine.specs.declared.machine.Phase.TheVariants.{Running, GoingBack}
-use Rattle.merc_machine.specs.declared.running.Stop.{Stop}
 use Rattle.merc_machine.specs.Event.{Move, Meet}
 use Rattle.merc_machine.specs.Coming.{IsReady, Steps, all_left}
-use Rattle.merc_machine.specs.Running.{stop_at}
 use Rattle.merc_machine.proofs.Going.{step_is}
 use Rattle.merc_machine.proofs.Inverses.{is_meeting}
 use Rattle.merc_machine.proofs.Linking.{IsMeeting, meets_fork, meets_wait, meets_signal}
 use Rattle.merc_machine.proofs.Standings.{reads, moves_back}
 
--- a slot with a word has a value
-pub with_word : (cells : List CellData) (slot : Slot) → is_some (slot_value cells (Some slot)) ≡ is_some (word_in slot)
-with_word cells slot = mapped (word_in slot)
-  where
-    mapped : (word : Option _) → is_some (option_map (value_of cells) word) ≡ is_some word
-    mapped None = refl
-    mapped (Some word) = refl
-
+-- a value that is there
 pub some_value : (value : Option Value) → is_some value ≡ true → (found : Value) × (value ≡ Some found)
 some_value None is = absurd cc
 some_value (Some value) is = (value, refl)
@@ -43,26 +31,7 @@ pub no_value : (value : Option Value) → is_some value ≡ false → value ≡ 
 no_value None is = refl
 no_value (Some value) is = absurd cc
 
--- the stop before an instruction, where there is one
-abbrev pub StopsBefore : StoreData → Instruction → Option Stop → Type 0
-StopsBefore store instruction result =
-    ((stop : Stop) → result ≡ Some stop → IsReady store instruction × (stop ≡ stop_at instruction)) × (IsReady store instruction → result ≡ Some (stop_at instruction))
-
-pub stops_ready : (store : StoreData) (instruction : Instruction) → IsReady store instruction → StopsBefore store instruction (Some (stop_at instruction))
-stops_ready store instruction ready = ((λ stop is. (ready, cc)), (λ again. refl))
-
-pub stops_not : (store : StoreData) (instruction : Instruction) → (IsReady store instruction → ⊥) → StopsBefore store instruction None
-stops_not store instruction not_ready = ((λ stop is. absurd cc), (λ ready. absurd (not_ready ready)))
-
--- Other instructions are never ready.
-pub never_ready : (store : StoreData) (instruction : Instruction) → ((site : _) → instruction ≡ Fork site → ⊥) → ((variable : ℕ) → instruction ≡ Wait variable → ⊥) → ((variable : ℕ) → instruction ≡ Signal variable → ⊥)
-    → IsReady store instruction → ⊥
-never_ready store (Fork site) fork wait signal ready = fork site refl
-never_ready store (Wait variable) fork wait signal ready = wait variable refl
-never_ready store (Signal variable) fork wait signal ready = signal variable refl
-never_ready store instruction fork wait signal ready = ready
-
--- A fork and a wait are always.
+-- A fork and a wait are always ready.
 ready_there : (codes : Codes) (entry_of : Procedure → Entry) (variables : ℕ) (own : _) (store : StoreData) (instruction : Instruction) → ((variable : ℕ) → instruction ≡ Signal variable → ⊥)
     → IsMeeting codes entry_of variables own instruction → IsReady store instruction
 ready_there codes entry_of variables own store _ signal (meets_fork site) = tt
