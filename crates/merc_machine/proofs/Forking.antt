@@ -4,9 +4,7 @@ use Rattle.std.specs.List.{All}
 use Rattle.std.specs.Option.{is_some}
 use Rattle.std.proofs.lemmas.List.Elements.{All-nil, All-cons, All-head, All-tail, All-weaker}
 use Rattle.merc_graded_tree.specs.declared.basic.Site.{Site}
-use Rattle.merc_value.specs.Value.{Value}
 use Rattle.merc_meaning.specs.Trace.{Env, RunEnd}
-use Rattle.merc_meaning.specs.Steps.{value_at}
 use Rattle.merc_course.specs.Course.{AtFork, Reply, RunCourse, Meets, Courses}
 use Rattle.merc_course.specs.Variables.{only}
 use Rattle.merc_code.specs.declared.instruction.Instruction.{Instruction}
@@ -21,7 +19,8 @@ use Rattle.merc_frames.specs.Rooms.{AreSlots}
 use Rattle.merc_load.specs.declared.loaded.Loaded.{Loaded}
 use Rattle.merc_load.specs.Loaded.{IsConjunctEntry, IsLoaded, StandsAt}
 use Rattle.merc_store.specs.Fitting.{FitsFrame}
-use Rattle.merc_store.specs.Frozen.{FrozenData, Freezes, OpensWith, frozen_of, with_value}
+use Rattle.merc_store.specs.Frozen.{FrozenData, Freezes, OpensWith, frozen_of}
+use Rattle.merc_store.proofs.ThawingLemmas.{frozen_within}
 use Rattle.merc_machine.specs.declared.machine.Machine.{Machine}
 use Rattle.merc_machine.specs.declared.machine.Phase.TheVariants.{Running}
 use Rattle.merc_machine.specs.Standing.{CallersStand, ChoicesStand, Runs, Stands, none}
@@ -32,17 +31,7 @@ use Rattle.merc_machine.proofs.MetAt.{Met, conjunct-at, met-at, met-fork}
 same-some : {A : Type 0} (one other : A) → Some one ≡ Some other → one ≡ other
 same-some one other e = cc
 
--- What is true of all variables is true of those that were frozen ..
-with-within : (P : ℕ → Type 0) (variable : ℕ) (value : Option Value) (frozen : FrozenData) → P variable → All P frozen.variables → All P (with_value variable value frozen).variables
-with-within P variable None frozen first others = others
-with-within P variable (Some value) frozen first others = All-cons P variable frozen.variables first others
-
-frozen-within : (P : ℕ → Type 0) (variables : List ℕ) (env : Env) → All P variables → All P (frozen_of variables env).variables
-frozen-within P [] env all = All-nil P
-frozen-within P (variable ∷ variables) env all =
-    with-within P variable (value_at env variable) (frozen_of variables env) (All-head P variable variables all) (frozen-within P variables env (All-tail P variable variables all))
-
--- .. and of those that one conjunct uses.
+-- What is true of all variables that conjuncts use is true of those that one uses.
 all-left-of : (P : ℕ → Type 0) (xs ys : List ℕ) → All P (xs ++ ys) → All P xs
 all-left-of P [] ys all = All-nil P
 all-left-of P (x ∷ xs) ys all = All-cons P x xs (All-head P x (xs ++ ys) all) (all-left-of P xs ys (All-tail P x (xs ++ ys) all))
@@ -91,7 +80,7 @@ module _ (machine : Machine) (site : Site) (ahead : RunCourse) (m : Met machine 
         let size = known.entry.size in
         let below = λ (variable : ℕ). variable < entry-is.variables in
         subst (λ (f : FrozenData). AreSlots size f.variables) (sym frozen-is)
-        (All-weaker below (λ (slot : ℕ). slot < size) (λ variable h. omega (arith, h, room)) (frozen_of known.used m.env).variables (frozen-within below known.used m.env used-has-room))
+        (All-weaker below (λ (slot : ℕ). slot < size) (λ variable h. omega (arith, h, room)) (frozen_of known.used m.env).variables (frozen_within below known.used m.env used-has-room))
 
     -- Its machine has before it the course that its code makes.
     means-course : (child : Machine) → OpensWith child.store known.entry.size frozen → child.program.now ≡ machine.program.now → child.phase ≡ Running known.entry.place
