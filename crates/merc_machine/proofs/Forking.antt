@@ -1,28 +1,26 @@
 -- The machine of a conjunct that is forked.
-use Rattle.std.proofs.Common.{◌≡◌, ℕ, zero, suc, ◌<◌, ◌≤◌, List, [], ◌∷◌, ◌++◌, length, Option, Some, None, slice_get, refl, sym, ap, ◌∙◌, subst, arith}
+use Rattle.std.proofs.Common.{◌≡◌, ℕ, zero, suc, ◌<◌, true, List, [], ◌∷◌, ◌++◌, length, Option, Some, None, slice_get, refl, sym, ◌∙◌, subst, arith}
 use Rattle.std.specs.List.{All}
+use Rattle.std.specs.Option.{is_some}
 use Rattle.std.proofs.lemmas.List.Elements.{All-nil, All-cons, All-head, All-tail, All-weaker}
-use Rattle.merc_graded_tree.specs.declared.basic.Procedure.{Procedure}
 use Rattle.merc_graded_tree.specs.declared.basic.Site.{Site}
-use Rattle.merc_value.specs.Value.{Value}
 use Rattle.merc_meaning.specs.Trace.{Env, RunEnd}
-use Rattle.merc_meaning.specs.Steps.{value_at}
 use Rattle.merc_course.specs.Course.{AtFork, Reply, RunCourse, Meets, Courses}
 use Rattle.merc_course.specs.Variables.{only}
 use Rattle.merc_code.specs.declared.instruction.Instruction.{Instruction}
 use Rattle.merc_code.specs.declared.instruction.Instruction.TheVariants.{Fork}
-use Rattle.merc_code.specs.Steps.{Code, ConjunctCode, Codes, At}
-use Rattle.merc_last_calls.specs.LeanMeaning.{YieldsLean}
+use Rattle.merc_code.specs.Steps.{ConjunctCode, Codes, State, At, forked_at}
+use Rattle.merc_last_calls.specs.LeanMeaning.{YieldsLean, YieldAllLean, yield_none, yield_more}
 use Rattle.merc_live.specs.Reads.{used_by}
 use Rattle.merc_layout.specs.Frames.{lent_to}
 use Rattle.merc_layout.specs.KnownConjuncts.{conjunct_at}
 use Rattle.merc_layout.specs.declared.conjuncts.KnownConjunct.{KnownConjunct}
-use Rattle.merc_layout.specs.declared.entries.Entry.{Entry}
 use Rattle.merc_frames.specs.Rooms.{AreSlots}
 use Rattle.merc_load.specs.declared.loaded.Loaded.{Loaded}
 use Rattle.merc_load.specs.Loaded.{IsConjunctEntry, IsLoaded, StandsAt}
 use Rattle.merc_store.specs.Fitting.{FitsFrame}
-use Rattle.merc_store.specs.Frozen.{FrozenData, Freezes, OpensWith, frozen_of, with_value}
+use Rattle.merc_store.specs.Frozen.{FrozenData, Freezes, OpensWith, frozen_of}
+use Rattle.merc_store.proofs.ThawingLemmas.{frozen_within}
 use Rattle.merc_machine.specs.declared.machine.Machine.{Machine}
 use Rattle.merc_machine.specs.declared.machine.Phase.TheVariants.{Running}
 use Rattle.merc_machine.specs.Standing.{CallersStand, ChoicesStand, Runs, Stands, none}
@@ -33,17 +31,7 @@ use Rattle.merc_machine.proofs.MetAt.{Met, conjunct-at, met-at, met-fork}
 same-some : {A : Type 0} (one other : A) → Some one ≡ Some other → one ≡ other
 same-some one other e = cc
 
--- What is true of all variables is true of those that were frozen ..
-with-within : (P : ℕ → Type 0) (variable : ℕ) (value : Option Value) (frozen : FrozenData) → P variable → All P frozen.variables → All P (with_value variable value frozen).variables
-with-within P variable None frozen first others = others
-with-within P variable (Some value) frozen first others = All-cons P variable frozen.variables first others
-
-frozen-within : (P : ℕ → Type 0) (variables : List ℕ) (env : Env) → All P variables → All P (frozen_of variables env).variables
-frozen-within P [] env all = All-nil P
-frozen-within P (variable ∷ variables) env all =
-    with-within P variable (value_at env variable) (frozen_of variables env) (All-head P variable variables all) (frozen-within P variables env (All-tail P variable variables all))
-
--- .. and of those that one conjunct uses.
+-- What is true of all variables that conjuncts use is true of those that one uses.
 all-left-of : (P : ℕ → Type 0) (xs ys : List ℕ) → All P (xs ++ ys) → All P xs
 all-left-of P [] ys all = All-nil P
 all-left-of P (x ∷ xs) ys all = All-cons P x xs (All-head P x (xs ++ ys) all) (all-left-of P xs ys (All-tail P x (xs ++ ys) all))
@@ -92,7 +80,7 @@ module _ (machine : Machine) (site : Site) (ahead : RunCourse) (m : Met machine 
         let size = known.entry.size in
         let below = λ (variable : ℕ). variable < entry-is.variables in
         subst (λ (f : FrozenData). AreSlots size f.variables) (sym frozen-is)
-        (All-weaker below (λ (slot : ℕ). slot < size) (λ variable h. omega (arith, h, room)) (frozen_of known.used m.env).variables (frozen-within below known.used m.env used-has-room))
+        (All-weaker below (λ (slot : ℕ). slot < size) (λ variable h. omega (arith, h, room)) (frozen_of known.used m.env).variables (frozen_within below known.used m.env used-has-room))
 
     -- Its machine has before it the course that its code makes.
     means-course : (child : Machine) → OpensWith child.store known.entry.size frozen → child.program.now ≡ machine.program.now → child.phase ≡ Running known.entry.place
@@ -108,15 +96,15 @@ module _ (machine : Machine) (site : Site) (ahead : RunCourse) (m : Met machine 
         let stands = subst (λ (p : Loaded). StandsAt p.ops.items m.codes m.entry_of known.entry.place known.entry.size is.variables None conjunct.code) (sym program) is.stands in
         let frame = opens.fits known.used m.env frozen-is is.variables is.room used-has-room in
         let runs : Runs ops m.codes m.entry_of known.entry.place child.store conjunct.code env [] [] [] = record {
-              own = None;
-              stands = record {
-                variables = is.variables;
-                position = subst (λ n. StandsAt ops m.codes m.entry_of known.entry.place n is.variables None conjunct.code) (sym opens.room) stands;
-                frame = subst (λ (used : List ℕ). FitsFrame cells is.variables slots (only used m.env) []) is.used_are frame;
-              };
-              callers_stand = subst (λ frames. CallersStand ops m.codes m.entry_of cells None frames []) (sym opens.callers) none;
-              choices_stand = subst (λ frames. ChoicesStand ops m.codes m.entry_of cells frames []) (sym opens.choices) (none cells);
-            } in
+          own = None;
+          stands = record {
+            variables = is.variables;
+            position = subst (λ n. StandsAt ops m.codes m.entry_of known.entry.place n is.variables None conjunct.code) (sym opens.room) stands;
+            frame = subst (λ (used : List ℕ). FitsFrame cells is.variables slots (only used m.env) []) is.used_are frame;
+          };
+          callers_stand = subst (λ frames. CallersStand ops m.codes m.entry_of cells None frames []) (sym opens.callers) none;
+          choices_stand = subst (λ frames. ChoicesStand ops m.codes m.entry_of cells frames []) (sym opens.choices) (none cells);
+        } in
         record {
           stands_before = record {
             codes = m.codes;
@@ -147,6 +135,34 @@ module _ (machine : Machine) (site : Site) (at : MeetsAt machine (Fork site)) (a
       let m = met-at machine (Fork site) ahead means.stands_before at in
       let listed = m.loaded.no_others site.number number known found in
       frozen-have-slots machine site ahead m number listed.0 listed.1 known found frozen freezes
+
+-- A course is forked for each conjunct.
+
+course-there : (codes : Codes) (states : List State) (forked : Courses RunEnd) → YieldAllLean codes states forked → (number : ℕ) (state : State) → slice_get states number ≡ Some state
+    → (course : RunCourse) × (course_at forked number ≡ Some course)
+course-there codes _ _ yield_none number state found = absurd cc
+course-there codes _ _ (yield_more state states course courses yields all) zero other found = (course, refl)
+course-there codes _ _ (yield_more state states course courses yields all) (suc number) other found = course-there codes states courses all number other found
+
+state-there : (conjuncts : List ConjunctCode) (env : Env) (left number : ℕ) (conjunct : ConjunctCode) → slice_get conjuncts number ≡ Some conjunct
+    → (state : State) × (slice_get (forked_at conjuncts env left) number ≡ Some state)
+state-there [] env left number conjunct found = absurd cc
+state-there (first ∷ rest) env left zero conjunct found = (At first.code (only first.used env) [] [] [] left, refl)
+state-there (first ∷ rest) env left (suc number) conjunct found = state-there rest env left number conjunct found
+
+pub forked-there : (machine : Machine) (site : Site) → MeetsAt machine (Fork site) → (number : ℕ) (known : KnownConjunct) → conjunct_at machine.program.now.conjuncts site.number number ≡ Some known
+    → (forked : Courses RunEnd) (next : Reply → RunCourse) → Means machine (Meets (AtFork site.number) forked next) → (course : RunCourse) × (course_at forked number ≡ Some course)
+forked-there machine site at number known found forked next means =
+    let m = met-at machine (Fork site) (Meets (AtFork site.number) forked next) means.stands_before at in
+    let conjuncts = m.codes.conjuncts site.number in
+    let listed = m.loaded.no_others site.number number known found in
+    let state = state-there conjuncts m.env (all_left machine) number listed.0 listed.1 in
+    course-there m.codes (forked_at conjuncts m.env (all_left machine)) forked (met-fork machine site forked next m).0 number state.0 state.1
+
+-- A conjunct that is there is known.
+pub not-unknown : (known : Option KnownConjunct) → None ≡ known → is_some known ≡ true → ⊥
+not-unknown None is there = absurd cc
+not-unknown (Some known) is there = absurd cc
 
 -- A conjunct's machine has its course before it.
 pub child-means : (machine : Machine) (site : Site) → MeetsAt machine (Fork site) → (number : ℕ) (known : KnownConjunct) → conjunct_at machine.program.now.conjuncts site.number number ≡ Some known

@@ -1,6 +1,5 @@
 -- Machines that go on behind an instruction at which they met others.
-use Rattle.std.proofs.Common.{◌≡◌, ℕ, zero, suc, ◌+◌, ◌-◌, ◌<◌, List, [], ◌∷◌, length, drop, Some, slice_get, refl, sym, ap, ◌∙◌, subst, arith}
-use Rattle.std.specs.Option.{is_some}
+use Rattle.std.proofs.Common.{◌≡◌, ℕ, suc, ◌+◌, ◌-◌, ◌<◌, [], ◌∷◌, length, drop, Some, slice_get, sym, ap, subst, arith}
 use Rattle.std.proofs.lemmas.List.Elements.{All-nil, All-cons}
 use Rattle.merc_graded_tree.specs.declared.basic.Site.{Site}
 use Rattle.merc_value.specs.Value.{Value}
@@ -20,7 +19,7 @@ use Rattle.merc_machine.specs.declared.machine.Phase.TheVariants.{Running}
 use Rattle.merc_machine.specs.Standing.{Runs}
 use Rattle.merc_machine.specs.Coming.{MeetsAt, all_left}
 use Rattle.merc_machine.specs.Running.{Means}
-use Rattle.merc_machine.proofs.MetAt.{Met, met-at, met-fork, met-signal, met-value, met-wait, runs-next, signal-there, wait-there}
+use Rattle.merc_machine.proofs.MetAt.{Met, met-at, met-fork, met-signal, met-value, met-wait, runs-next, wait-there}
 use Rattle.merc_machine.proofs.Performing.{runs_grown}
 use Rattle.merc_machine.proofs.Standings.{runs_behind}
 
@@ -57,14 +56,14 @@ abbrev pub IsNextPlace : Machine → ℕ → Type 0
 IsNextPlace machine there = (place : ℕ) → machine.phase ≡ Running place → there ≡ suc place
 
 -- Behind a fork it has as many steps less left as its conjuncts made.
-pub joins : (machine : Machine) (site : Site) (steps there : ℕ) → MeetsAt machine (Fork site) → IsNextPlace machine there → (forked : Courses RunEnd) (next : Reply → RunCourse)
-    → Means machine (Meets (AtFork site.number) forked next) → Means (gone_on machine machine.store there (machine.later - steps)) (next (Joined steps))
-joins machine site steps there at behind forked next means =
+pub joins : (machine : Machine) (site : Site) (made steps : ℕ) → made ≡ steps → (there : ℕ) → MeetsAt machine (Fork site) → IsNextPlace machine there → (forked : Courses RunEnd) (next : Reply → RunCourse)
+    → Means machine (Meets (AtFork site.number) forked next) → Means (gone_on machine machine.store there (machine.later - made)) (next (Joined steps))
+joins machine site made steps same there at behind forked next means =
     let course = Meets (AtFork site.number) forked next in
     let m = met-at machine (Fork site) course means.stands_before at in
     let rests = means.rests in
-    went-on machine (Fork site) course means m there (behind m.place m.running) machine.store (machine.later - steps) (all_left machine - steps) m.env (next (Joined steps))
-    (runs-next machine (Fork site) course m) (omega (arith, rests)) ((met-fork machine site forked next m).1 (Joined steps))
+    went-on machine (Fork site) course means m there (behind m.place m.running) machine.store (machine.later - made) (all_left machine - steps) m.env (next (Joined steps))
+    (runs-next machine (Fork site) course m) (omega (arith, rests, same)) ((met-fork machine site forked next m).1 (Joined steps))
 
 -- Behind a wait the variable has the value that it was given.
 pub gives : (machine : Machine) (variable there : ℕ) (store : StoreData) (given : Value) → MeetsAt machine (Wait variable) → IsNextPlace machine there → IsSound machine.store.cells machine.store.stacks
@@ -101,18 +100,10 @@ pub hands : (machine : Machine) (variable : ℕ) (value : Value) → MeetsAt mac
 hands machine variable value at forked next means =
     met-value machine variable value forked next (met-at machine (Signal variable) (Meets (AtSignal variable value) forked next) means.stands_before at)
 
--- The variable for which it waits, and the one whose value it hands on, have slots.
-
+-- The variable for which it waits has a slot.
 pub wait-slot : (machine : Machine) (variable : ℕ) → MeetsAt machine (Wait variable) → (course : RunCourse) → Means machine course → variable < length machine.store.stacks.current
 wait-slot machine variable at course means =
     let m = met-at machine (Wait variable) course means.stands_before at in
     let room = m.runs.stands.frame.room in
     let is_there = wait-there machine variable course m in
-    omega (arith, room, is_there)
-
-pub signal-slot : (machine : Machine) (variable : ℕ) → MeetsAt machine (Signal variable) → (course : RunCourse) → Means machine course → variable < length machine.store.stacks.current
-signal-slot machine variable at course means =
-    let m = met-at machine (Signal variable) course means.stands_before at in
-    let room = m.runs.stands.frame.room in
-    let is_there = signal-there machine variable course m in
     omega (arith, room, is_there)

@@ -41,6 +41,8 @@ impl<'a> Machine<'a> {
         requires there { is_some (conjunct_at self.now.program.now.conjuncts site.number number) ≡ true }
         ensures means { IfOk result (λ child. (forked : Courses RunEnd) (next : Reply → RunCourse) → Means self.now (Meets (AtFork site.number) forked next)
             → (course : RunCourse) → course_at forked number ≡ Some course → Means child course) }
+        ensures forked { (forked : Courses RunEnd) (next : Reply → RunCourse) → Means self.now (Meets (AtFork site.number) forked next)
+            → (course : RunCourse) × (course_at forked number ≡ Some course) }
         ensures limit { IfOk result (λ child. (child.limit ≡ all_left self.now) × (all_left child ≡ all_left self.now)) }
     {
         match self.program.conjunct(site, number) {
