@@ -1,5 +1,6 @@
 pub mod KnownProcedures
 pub mod ConjunctEntries
+pub mod Lent
 pub mod Lists
 pub mod Places
 pub mod Reading

@@ -2,9 +2,9 @@
 use Rattle.std.specs.Prelude.{◌≡◌, pos, true, false, [], ◌∷◌, None, refl}
 use Rattle.merc_tree.specs.declared.declarations.Arg.TheVariants.{Input, Output}
 use Rattle.merc_goal_tree.specs.declared.goal.Symbol.TheVariants.{Constructor, Integer as IntegerSymbol}
-use Rattle.merc_code.specs.declared.instruction.Instruction.TheVariants.{Text, Copy, Split, Jump, Try, Mark, Commit, Call, Return}
+use Rattle.merc_code.specs.declared.instruction.Instruction.TheVariants.{Text, Copy, Split, Jump, Try, Mark, Commit, Call, Return, Fork, Wait, Signal}
 use Rattle.merc_code.specs.Steps.{Codes}
-use Rattle.merc_code.specs.StepsExamples.{procedure}
+use Rattle.merc_code.specs.StepsExamples.{procedure, site}
 use Rattle.merc_live.specs.ReadsExamples.{one}
 use Rattle.merc_live.specs.declared.reading.Slot.TheVariants.{Variable, Mark as MarkSlot}
 use Rattle.merc_layout.specs.Clean.{arguments_at, looks_at, own_at, places_in, reading_places, writes}
@@ -48,6 +48,23 @@ looks_at-returned = refl
 
 looks_at-not_returned : looks_at one (Input ∷ Output ∷ []) (Variable 0) Return ≡ false
 looks_at-not_returned = refl
+
+-- A fork looks at all that its conjuncts use, a signal at what it hands on, and a wait writes.
+
+looks_at-forked : looks_at one [] (Variable 5) (Fork (site 7)) ≡ true
+looks_at-forked = refl
+
+looks_at-not_forked : looks_at one [] (Variable 6) (Fork (site 7)) ≡ false
+looks_at-not_forked = refl
+
+looks_at-handed_on : looks_at one [] (Variable 3) (Signal 3) ≡ true
+looks_at-handed_on = refl
+
+looks_at-awaited : looks_at one [] (Variable 3) (Wait 3) ≡ false
+looks_at-awaited = refl
+
+writes-awaited : writes one (Variable 3) (Wait 3) ≡ true
+writes-awaited = refl
 
 -- Variables and marks are apart.
 

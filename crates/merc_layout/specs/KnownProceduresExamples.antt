@@ -9,7 +9,7 @@ use Rattle.merc_code.specs.Steps.{Code, Codes, ProcedureCode}
 use Rattle.merc_code.specs.ProgramCode.{codes_in}
 use Rattle.merc_live.specs.Reads.{MayReadVariable, MayReadMark, here, later, there}
 use Rattle.merc_layout.specs.Frames.{FitsInstruction}
-use Rattle.merc_layout.specs.FramesExamples.{fits}
+use Rattle.merc_layout.specs.FramesExamples.{fits, lends}
 use Rattle.merc_layout.specs.EntriesExamples.{first, first_code, has_entry-example, known, pieces, second, table, third}
 use Rattle.merc_layout.specs.KnownProcedures.{AreKnown, IsKnown, TellAllClean, TellsClean}
 use Rattle.merc_layout.specs.declared.entries.Entry.{Entry}
@@ -23,7 +23,7 @@ abbrev procedures : List (List ProcedureCode)
 procedures = (with_code (Input ∷ []) first_code ∷ with_code (Output ∷ []) (Fail ∷ []) ∷ []) ∷ [] ∷ (with_code [] (Return ∷ []) ∷ []) ∷ []
 
 abbrev known_codes : Codes
-known_codes procedure = codes_in (record { procedures = procedures; query = [] }) procedure
+known_codes = codes_in (record { procedures = procedures; conjuncts = []; query = [] })
 
 -- the third one's code looks at nothing
 third_clean : TellsClean known_codes true (with_code [] (Return ∷ []))
@@ -58,7 +58,12 @@ first_known = record {
   code_is = record {
     outputs_are = refl;
     code_is = refl;
-    has_room = record { room = omega arith; arguments = omega arith; fits = All-from_recursion (FitsInstruction 1 2) first_code (fits 1 2 (Jump 0) tt tt tt tt, (fits 1 2 Return tt tt tt tt, tt)) };
+    has_room = record {
+      room = omega arith;
+      arguments = omega arith;
+      fits = All-from_recursion (FitsInstruction 1 2) first_code (fits 1 2 (Jump 0) tt tt tt tt, (fits 1 2 Return tt tt tt tt, tt));
+      lends = lends known_codes.conjuncts 1 first_code (tt, (tt, tt));
+    };
   };
   places_are = refl;
   clean = λ is. absurd cc;
@@ -71,7 +76,12 @@ second_known = record {
   code_is = record {
     outputs_are = refl;
     code_is = refl;
-    has_room = record { room = omega arith; arguments = omega arith; fits = All-from_recursion (FitsInstruction 1 1) (Fail ∷ []) (fits 1 1 Fail tt tt tt tt, tt) };
+    has_room = record {
+      room = omega arith;
+      arguments = omega arith;
+      fits = All-from_recursion (FitsInstruction 1 1) (Fail ∷ []) (fits 1 1 Fail tt tt tt tt, tt);
+      lends = lends known_codes.conjuncts 1 (Fail ∷ []) (tt, tt);
+    };
   };
   places_are = refl;
   clean = λ is. absurd cc;
@@ -84,7 +94,12 @@ third_known = record {
   code_is = record {
     outputs_are = refl;
     code_is = refl;
-    has_room = record { room = omega arith; arguments = omega arith; fits = All-from_recursion (FitsInstruction 0 0) (Return ∷ []) (fits 0 0 Return tt tt tt tt, tt) };
+    has_room = record {
+      room = omega arith;
+      arguments = omega arith;
+      fits = All-from_recursion (FitsInstruction 0 0) (Return ∷ []) (fits 0 0 Return tt tt tt tt, tt);
+      lends = lends known_codes.conjuncts 0 (Return ∷ []) (tt, tt);
+    };
   };
   places_are = refl;
   clean = third_clean;

@@ -4,9 +4,11 @@ pub mod Entries
 pub mod EntriesExamples
 pub mod Frames
 pub mod FramesExamples
-pub mod KnownProcedures
 pub mod KnownConjuncts
+pub mod KnownConjunctsExamples
+pub mod KnownProcedures
 pub mod KnownProceduresExamples
 pub mod Sizes
+pub mod SizesExamples
 pub mod StartsClean
 pub mod StartsCleanExamples

@@ -58,7 +58,7 @@ stands_received codes own instruction rest op ops new (inr (inr (inr passes))) l
 
 -- Given is a loaded program, and of the code that is loaded what it belongs to.
 module _ (program : Loaded) (codes : Codes) (entry_of : Procedure → Entry) (query : Code) (loaded : IsLoaded program codes entry_of query) (variables : ℕ) (own : Option (List Arg)) where
-  call_received : (procedure : Procedure) (called : Option ProcedureCode) (arguments : List ℕ) (rest : Code) → codes procedure ≡ called
+  call_received : (procedure : Procedure) (called : Option ProcedureCode) (arguments : List ℕ) (rest : Code) → codes.procedures procedure ≡ called
       → FitsEntry (call_op codes entry_of variables own (entry_of procedure) called arguments rest)
   call_received procedure None arguments rest is = tt
   call_received procedure (Some code) arguments rest is = by (is_last_of own rest (outputs code.places arguments))

@@ -5,7 +5,8 @@ use Rattle.std.proofs.lemmas.List.Elements.{All-from_recursion}
 use Rattle.merc_goal_tree.specs.declared.goal.Operation.TheVariants.{Subtract}
 use Rattle.merc_goal_tree.specs.declared.goal.Comparison.TheVariants.{Less}
 use Rattle.merc_goal_tree.specs.declared.goal.Symbol.TheVariants.{Constructor}
-use Rattle.merc_code.specs.declared.instruction.Instruction.TheVariants.{Arithmetic, Test}
+use Rattle.merc_code.specs.declared.instruction.Instruction.TheVariants.{Arithmetic, Fork, Signal, Test, Wait}
+use Rattle.merc_code.specs.StepsExamples.{site}
 use Rattle.merc_frames.specs.declared.passing.Pass.{Pass}
 use Rattle.merc_frames.specs.Rooms.{AreSlots}
 use Rattle.merc_load.specs.FittingOps.{FitsEntry, FitsOp}
@@ -13,7 +14,7 @@ use Rattle.merc_load.specs.Superinstructions.{cell_arm, empty_arm}
 use Rattle.merc_load.specs.declared.loaded.Arm.{Arm}
 use Rattle.merc_load.specs.declared.loaded.Sum.{Sum}
 use Rattle.merc_layout.specs.declared.entries.Entry.{Entry}
-use Rattle.merc_load.specs.declared.loaded.Op.TheVariants.{Do, Call, LastCall, CallSum, LastCallSum, If, SumNumber, SwitchFields, Fail, Arithmetic as ArithmeticOp, Build as BuildOp, Split as SplitOp}
+use Rattle.merc_load.specs.declared.loaded.Op.TheVariants.{Do, Call, LastCall, CallSum, LastCallSum, If, SumNumber, SwitchFields, Fail, Meet, Close, Arithmetic as ArithmeticOp, Build as BuildOp, Split as SplitOp}
 
 -- a frame of three slots
 
@@ -54,6 +55,23 @@ sum-not f = let h : 3 < 3 = f.0 in absurd (omega (arith, h))
 
 fail-example : FitsOp 0 Fail
 fail-example = tt
+
+-- A wait gives its variable a value, and a signal looks at it. A fork names none itself.
+
+wait-example : FitsOp 3 (Meet (Wait 2))
+wait-example = omega arith
+
+wait-not : FitsOp 3 (Meet (Wait 3)) → ⊥
+wait-not f = let h : 3 < 3 = f in absurd (omega (arith, h))
+
+signal-not : FitsOp 3 (Meet (Signal 3)) → ⊥
+signal-not f = let h : 3 < 3 = f in absurd (omega (arith, h))
+
+fork-example : FitsOp 0 (Meet (Fork (site 7)))
+fork-example = tt
+
+close-example : FitsOp 0 Close
+close-example = tt
 
 -- the entry of a procedure, whose frames have two slots
 abbrev entry : Entry

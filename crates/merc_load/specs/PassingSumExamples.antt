@@ -71,7 +71,7 @@ passed_twice-not slot left taken = still_passed slot taken.before taken.behind l
 -- `p(N - 1, M)`, where the procedure has two inputs: the first variable is N, the second one has the constant, the third one is the difference, and the fourth one is M.
 
 abbrev pub two : Codes
-two called = slice_get (record { places = Input ∷ Input ∷ []; code = Return ∷ [] } ∷ []) called.predicate
+two = record { procedures = λ called. slice_get (record { places = Input ∷ Input ∷ []; code = Return ∷ [] } ∷ []) called.predicate; conjuncts = λ site. [] }
 
 abbrev pub call_of : Code → Code
 call_of rest = Call (procedure 0) (2 ∷ 3 ∷ []) ∷ rest

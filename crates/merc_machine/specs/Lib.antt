@@ -2,6 +2,7 @@ pub mod Coming
 pub mod ComingExamples
 pub mod Event
 pub mod EventExamples
+pub mod Meetings
 pub mod Outputs
 pub mod OutputsExamples
 pub mod Running

@@ -1,10 +1,12 @@
 //! Where a machine meets others: what it hands on and what it is given between two runs.
-ghost use Rattle.std.specs.Prelude.{◌≡◌, ℕ, ◌+◌, ◌-◌, ◌≤◌, [], ◌∷◌, length, IfOk, OnOk, OnErr, Option, Some};
+ghost use Rattle.std.specs.Prelude.{◌≡◌, ℕ, ◌+◌, ◌-◌, ◌≤◌, [], ◌∷◌, length, IfOk, OnOk, OnErr, Option, Some, true};
+ghost use Rattle.std.specs.Option.{is_some};
 ghost use Rattle.merc_value.specs.Value.{Value};
 ghost use Rattle.merc_value.specs.Block.{root_values};
 ghost use Rattle.merc_code.specs.declared.instruction.Instruction.{Instruction};
 ghost use Rattle.merc_code.specs.declared.instruction.Instruction.TheVariants.{Fork, Wait, Signal};
 ghost use Rattle.merc_course.specs.Course.{AtFork, AtWait, AtSignal, Course, Courses, Given, Joined, Meets, Passed, Reply, RunCourse};
+ghost use Rattle.merc_layout.specs.KnownConjuncts.{conjunct_at};
 ghost use Rattle.merc_meaning.specs.Trace.{RunEnd};
 ghost use Rattle.merc_machine.specs.Coming.{MeetsAt, all_left};
 ghost use Rattle.merc_machine.specs.Running.{Means, course_at, steps_in, stop_at, stop_by};
@@ -32,12 +34,20 @@ impl<'a> Machine<'a> {
     /// `NoMemory` where memory was refused.
     pub fn child(&self, alloc: Global, site: Site, number: usize) -> Result<Machine<'a>, NoMemory>
         requires at { MeetsAt self.now (Fork site) }
-        requires forked { (forked : Courses RunEnd) × (next : Reply → RunCourse) × Means self.now (Meets (AtFork site.number) forked next) × ((course : RunCourse) × (course_at forked number ≡ Some course)) }
+        requires means { (course : RunCourse) × Means self.now course }
+        requires there { is_some (conjunct_at self.now.program.now.conjuncts site.number number) ≡ true }
         ensures means { IfOk result (λ child. (forked : Courses RunEnd) (next : Reply → RunCourse) → Means self.now (Meets (AtFork site.number) forked next)
             → (course : RunCourse) → course_at forked number ≡ Some course → Means child course) }
         ensures limit { IfOk result (λ child. (child.limit ≡ all_left self.now) × (all_left child ≡ all_left self.now)) }
     {
         todo!()
+    }
+
+    /// Whether a conjunct of this number, from 0, is forked at the site.
+    pub fn has_child(&self, site: Site, number: usize) -> bool
+        ensures { result ≡ is_some (conjunct_at self.now.program.now.conjuncts site.number number) }
+    {
+        self.program.conjunct(site, number).is_some()
     }
 
     /// Goes on behind the fork at which the machine stands, with as many steps less left as its conjuncts made, or ends as their

@@ -1,0 +1,1 @@
+-- Worked examples of machines that stand at scripts.

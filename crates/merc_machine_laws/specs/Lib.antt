@@ -1,0 +1,2 @@
+pub mod AtScripts
+pub mod AtScriptsExamples
