@@ -1,0 +1,6 @@
+pub mod Conjuncts
+pub mod MachinesAtScripts
+pub mod Meetings
+pub mod ShownStands
+pub mod StandsAtItems
+pub mod Starting
