@@ -25,7 +25,7 @@ goals_start before after text items found trees is names asked goal accepted tre
     let query = query_code all whole variables in
     let follows = same-code-follows all sites (program-sited predicates trees tree) whole (goal-behind-sited trees tree) variables codes code.procedures code.conjuncts in
     let goes : RunCourse = shown variables (course all whole limit) in
-    let yields = with_last_calls codes (start query limit) (start query limit) goes (starts codes query limit) (follows.each_limit limit) in
+    let yields = with_last_calls codes (start query limit) (start query limit) goes (starts query limit) (follows.each_limit limit) in
     record {
       course = goes;
       means = started codes query loaded goes yields;

@@ -1,0 +1,1 @@
+-- Worked examples of runs of machines that stand at scripts.
