@@ -30,5 +30,5 @@ goals_start before after text items found trees is names asked goal accepted tre
       course = goes;
       means = started codes query loaded goes yields;
       stands = shown_stands (value_in (cells_of script)) variables (course all whole limit) script
-        (goals_stand before after text items found trees is names asked goal accepted tree graded limit few);
+          (goals_stand before after text items found trees is names asked goal accepted tree graded limit few);
     }

@@ -41,11 +41,14 @@ child_at NoChild number = None
 child_at (Child first others) zero = Some first
 child_at (Child first others) (suc number) = child_at others number
 
--- This is the code that the split trees of procedures and of a goal give each procedure and each site.
+-- the code of procedures, and of the conjuncts of all sites, by the split trees of procedures and of a goal
+abbrev pub split_codes : List PredDecl → List Node → Node → Codes
+split_codes predicates trees goal = codes_of (split_program predicates trees) (conjuncts_at (forked_with (all_split 0 trees) (split_goal trees goal)))
+
+-- This is the code that they give each procedure and each site.
 pub record IsCodeOf (predicates : List PredDecl) (trees : List Node) (goal : Node) (codes : Codes) : Type 0 where
-  pub procedures : (procedure : Procedure)
-      → codes.procedures procedure ≡ (codes_of (split_program predicates trees) (conjuncts_at (forked_with (all_split 0 trees) (split_goal trees goal)))).procedures procedure
-  pub conjuncts : (site : ℕ) → codes.conjuncts site ≡ (codes_of (split_program predicates trees) (conjuncts_at (forked_with (all_split 0 trees) (split_goal trees goal)))).conjuncts site
+  pub procedures : (procedure : Procedure) → codes.procedures procedure ≡ (split_codes predicates trees goal).procedures procedure
+  pub conjuncts : (site : ℕ) → codes.conjuncts site ≡ (split_codes predicates trees goal).conjuncts site
 
 -- A machine that is started for an accepted goal, over its loaded code, stands at the goal's script.
 abbrev pub GoalsStartAtScripts : Type 0
