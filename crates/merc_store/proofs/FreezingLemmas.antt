@@ -1,19 +1,22 @@
 -- Variables with a value are those whose slots hold words, and their values are those of the words.
-use Rattle.std.proofs.Common.{◌≡◌, ℕ, ◌+◌, ◌<◌, List, [], ◌∷◌, ◌++◌, length, map, take, cond, get_or, Option, Some, None, refl, sym, ap, ◌∙◌, append_assoc}
+use Rattle.std.proofs.Common.{◌≡◌, ℕ, ◌+◌, ◌<◌, true, List, [], ◌∷◌, ◌++◌, length, map, take, cond, get_or, Option, Some, None, slice_get, refl, sym, ap, ◌∙◌, append_assoc}
 use Rattle.std.specs.List.{All, cons_option}
 use Rattle.std.specs.Option.{option_map, is_some}
 use Rattle.std.proofs.lemmas.List.{take_more}
 use Rattle.std.proofs.lemmas.List.Elements.{All-nil, All-cons, filter-append, filter_map-append}
 use Rattle.merc_value.specs.Value.{Value}
-use Rattle.merc_value.specs.Block.{CellData, IsBelow, value_of}
+use Rattle.merc_value.specs.Block.{BlockData, CellData, IsBelow, root_values, value_of}
 use Rattle.merc_value.specs.declared.word.Word.{Word}
 use Rattle.merc_meaning.specs.Trace.{Env}
 use Rattle.merc_meaning.specs.Steps.{value_at}
 use Rattle.merc_frames.specs.declared.slot.Slot.{Slot}
+use Rattle.merc_segments.specs.Segments.{AreWordsFor}
 use Rattle.merc_store.specs.Data.{StoreData, IsBelowIf, IsSlotBelow}
+use Rattle.merc_store.specs.Fitting.{slot_value}
 use Rattle.merc_store.specs.Frozen.{Freezes, FrozenData, frozen_of, held_variables, held_words, with_value}
 use Rattle.merc_store.specs.Performing.{word_at}
-use Rattle.merc_store.proofs.FrameLemmas.{HaveWords, have_words}
+use Rattle.merc_store.proofs.FrameLemmas.{HaveWords, have_words, slot_word}
+use Rattle.merc_store.proofs.ReadingLemmas.{none_of}
 use Rattle.merc_store.proofs.SoundLemmas.{word_below}
 
 pub variables_more : (slots : List Slot) (xs : List ℕ) (i d : ℕ) (old held new : List ℕ) → i < length xs → held ≡ old ++ held_variables slots (take i xs)
@@ -66,3 +69,25 @@ freezes store variables held words values held_is words_are values_are = record 
       ∙ ap (frozen_from (held_variables store.stacks.current variables)) (values_are ∙ ap (map (value_of store.cells)) words_are)
       ∙ all_frozen store.cells store.stacks.current env variables (have_words store.cells count store.stacks.current env marks fits variables within);
 }
+
+-- one variable
+
+value_told : (cells : List CellData) (word : Option Word) → is_some word ≡ is_some (option_map (value_of cells) word)
+value_told cells None = refl
+value_told cells (Some word) = refl
+
+-- it has a value where its slot holds a word
+pub held_tells : (cells : List CellData) (slots : List Slot) (x : ℕ) (word : Option Word) → word ≡ word_at slots x → is_some word ≡ is_some (slot_value cells (slice_get slots x))
+held_tells cells slots x word is = ap is_some is ∙ value_told cells (word_at slots x) ∙ sym (ap is_some (slot_word cells (slice_get slots x)))
+
+pub is_held : (cells : List CellData) (slots : List Slot) (x : ℕ) (word : Option Word) → word ≡ word_at slots x → is_some (slot_value cells (slice_get slots x)) ≡ true
+    → ((found : Word) → word ≡ Some found → ⊥) → ⊥
+is_held cells slots x word is has lacks = absurd (let never = sym (ap is_some (none_of word lacks)) ∙ held_tells cells slots x word is ∙ has in cc)
+
+pub copied_one : (store : StoreData) (x : ℕ) (word : Word) (block : BlockData) → word_at store.stacks.current x ≡ Some word
+    → AreWordsFor block.cells (map (value_of store.cells) (word ∷ [])) block.roots
+    → (value : Value) → slot_value store.cells (slice_get store.stacks.current x) ≡ Some value → root_values block ≡ value ∷ []
+copied_one store x word block found are value is =
+    let same : Some (value_of store.cells word) ≡ Some value = sym (slot_word store.cells (slice_get store.stacks.current x) ∙ ap (option_map (value_of store.cells)) found) ∙ is in
+    let one : value_of store.cells word ≡ value = cc in
+    are.same ∙ ap (λ v. v ∷ []) one

@@ -141,7 +141,7 @@ one_held : (P : ℕ → Type 0) (y : ℕ) (entry : Option Value) (frozen : Froze
 one_held P y None frozen first others = others
 one_held P y (Some value) frozen first others = All-cons P y frozen.variables first others
 
-frozen_within : (P : ℕ → Type 0) (variables : List ℕ) (env : Env) → All P variables → All P (frozen_of variables env).variables
+pub frozen_within : (P : ℕ → Type 0) (variables : List ℕ) (env : Env) → All P variables → All P (frozen_of variables env).variables
 frozen_within P [] env within = All-nil P
 frozen_within P (y ∷ ys) env within = one_held P y (value_at env y) (frozen_of ys env) (All-head P y ys within) (frozen_within P ys env (All-tail P y ys within))
 

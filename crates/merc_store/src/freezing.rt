@@ -1,6 +1,10 @@
 //! Values of variables that stand alone, so that they can go from one store to another.
-ghost use Rattle.std.specs.Prelude.{◌≡◌, ◌<◌, ◌++◌, ◌∷◌, [], length, IfOk, OnOk};
+ghost use Rattle.std.specs.Prelude.{◌≡◌, ◌<◌, ◌++◌, ◌∷◌, [], length, slice_get, true, Some, IfOk, OnOk};
+ghost use Rattle.std.specs.Option.{is_some};
+ghost use Rattle.merc_value.specs.Value.{Value};
+ghost use Rattle.merc_value.specs.Block.{root_values};
 ghost use Rattle.merc_frames.specs.Rooms.{AreSlots};
+ghost use Rattle.merc_store.specs.Fitting.{slot_value};
 ghost use Rattle.merc_store.specs.Frozen.{Freezes, frozen_in, held_variables, held_words};
 
 use crate::Store;
@@ -40,6 +44,33 @@ impl Store {
             variables: held,
             values,
         })
+    }
+
+    /// A copy of the value of a variable of the current frame, which is a block's only root.
+    ///
+    /// The cost is that of `merc_segments::freeze`.
+    ///
+    /// # Errors
+    ///
+    /// `NoMemory` where memory was refused.
+    pub fn freeze_one(&self, alloc: Global, variable: Var) -> Result<Block, NoMemory>
+        requires slot { variable < length self.now.stacks.current }
+        requires has { is_some (slot_value self.now.cells (slice_get self.now.stacks.current variable)) ≡ true }
+        ensures { IfOk result (λ block. (value : Value) → slot_value self.now.cells (slice_get self.now.stacks.current variable) ≡ Some value → root_values block ≡ value ∷ []) }
+    {
+        let Some(word) = self.word(variable) else {
+            unreachable!()
+        };
+        freeze(alloc, &self.heap, &[word])
+    }
+
+    /// Whether a variable of the current frame has a value.
+    #[inline(always)]
+    pub fn has_value(&self, variable: Var) -> bool
+        requires slot { variable < length self.now.stacks.current }
+        ensures { result ≡ is_some (slot_value self.now.cells (slice_get self.now.stacks.current variable)) }
+    {
+        self.word(variable).is_some()
     }
 }
 
