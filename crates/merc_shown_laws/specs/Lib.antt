@@ -1,0 +1,3 @@
+pub mod Shows
+pub mod ShownLaws
+pub mod ShowsExamples
