@@ -4,3 +4,5 @@ pub mod ValuesBehind
 pub mod Showing
 pub mod AskedGoals
 pub mod Roots
+pub mod Forkless
+pub mod PlainScripts

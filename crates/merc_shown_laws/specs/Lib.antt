@@ -1,4 +1,5 @@
 pub mod Shows
 pub mod ShownLaws
+pub mod PlainLaws
 pub mod ShowsExamples
 pub mod ShownLawsExamples
