@@ -1,5 +1,5 @@
 -- The course of a goal that has no `&` forks nothing, where the courses of the procedures that it calls fork nothing.
-use Rattle.std.proofs.Common.{◌≡◌, ℕ, suc, ◌+◌, Bool, true, false, List, [], ◌∷◌, ◌++◌, Option, Some, None, arith}
+use Rattle.std.proofs.Common.{◌≡◌, ℕ, ◌+◌, Bool, true, false, List, [], ◌∷◌, ◌++◌, Option, Some, None, arith}
 use Rattle.std.specs.Prelude.{⊤}
 use Rattle.std.specs.List.{AllByRecursion}
 use Rattle.merc_value.specs.Value.{Value, Values}
@@ -70,7 +70,8 @@ once_forkless : (b : Bool) (t : BranchCourse) → Forkless t → Forkless (once_
 once_forkless true t h = first_forkless t h
 once_forkless false t h = h
 
-choose_forkless : (f : Hold → BranchCourse) (u t : BranchCourse) → ((hold : Hold) → Forkless (f hold)) → Forkless u → Forkless t → Forkless (choose f u t)
+choose_forkless : (f : Hold → BranchCourse) (u t : BranchCourse) → ((hold : Hold) → Forkless (f hold)) → Forkless u → Forkless t
+    → Forkless (choose f u t)
 choose_forkless f u Over k w h = w
 choose_forkless f u (Breaks halt) k w h = tt
 choose_forkless f u (Steps t) k w h = choose_forkless f u t k w h
@@ -143,10 +144,12 @@ module _ (plan : Plan) (program : Program) (call : Procedure → Hold → Branch
   abbrev All : List Procedure → Type 0
   All called = AllByRecursion (CallsForkless call) called
 
-  called_forkless : (procedure : Procedure) (body : Option ProcedureBody) (arguments : List ℕ) (hold : Hold) → CallsForkless call procedure → Forkless (called (call procedure) body arguments hold)
+  called_forkless : (procedure : Procedure) (body : Option ProcedureBody) (arguments : List ℕ) (hold : Hold) → CallsForkless call procedure
+      → Forkless (called (call procedure) body arguments hold)
   called_forkless procedure None arguments hold calls = tt
   called_forkless procedure (Some body) arguments hold calls =
-      taken_forkless (λ inner. with_env hold (brought_back body.places arguments (value_at inner.env) hold.env)) (call procedure (holding (entered body.places arguments hold.env) hold.next))
+      taken_forkless (λ inner. with_env hold (brought_back body.places arguments (value_at inner.env) hold.env))
+      (call procedure (holding (entered body.places arguments hold.env) hold.next))
       (calls (holding (entered body.places arguments hold.env) hold.next))
 
   basic_forkless : (goal : BasicGoal) → All (calls_of_basic goal) → (hold : Hold) → Forkless (basic_branch plan program call goal hold)
@@ -156,8 +159,10 @@ module _ (plan : Plan) (program : Program) (call : Procedure → Hold → Branch
   basic_forkless (Test one other) a hold = traced_forkless hold (compared hold.env same (value_at hold.env one) (value_at hold.env other))
   basic_forkless (Build root symbol arguments) a hold = traced_forkless hold (binds hold.env root (made_if symbol (values_at hold.env arguments)))
   basic_forkless (Split root symbol arguments) a hold = traced_forkless hold (split hold.env symbol arguments (value_at hold.env root))
-  basic_forkless (Arithmetic operation result left right) a hold = traced_forkless hold (operated hold.env operation result (value_at hold.env left) (value_at hold.env right))
-  basic_forkless (Compare test left right) a hold = traced_forkless hold (compared hold.env (comparison_of test) (value_at hold.env left) (value_at hold.env right))
+  basic_forkless (Arithmetic operation result left right) a hold =
+      traced_forkless hold (operated hold.env operation result (value_at hold.env left) (value_at hold.env right))
+  basic_forkless (Compare test left right) a hold =
+      traced_forkless hold (compared hold.env (comparison_of test) (value_at hold.env left) (value_at hold.env right))
   basic_forkless (Raise text) a hold = traced_forkless hold (raised (value_at hold.env text))
   basic_forkless (Call procedure arguments) a hold = called_forkless procedure (program procedure) arguments hold a.0
   basic_forkless (Wait variable conjunct) a hold = awaited_forkless hold variable (wait_for variable hold.waits)
@@ -173,16 +178,20 @@ module _ (plan : Plan) (program : Program) (call : Procedure → Hold → Branch
     goal_forkless (Switch variable arms) e a hold = arms_forkless arms e a (value_at hold.env variable) hold
     goal_forkless (Conditional condition then_part else_part) e a hold =
         let parts = none_rest (forks condition) (forks then_part + forks else_part) e in
-        let calls = back (CallsForkless call) (calls_of condition) (calls_of then_part ++ calls_of else_part) a in
-        choose_forkless (λ inner. node_branch plan program call then_part inner) (node_branch plan program call else_part hold) (node_branch plan program call condition hold)
-        (λ inner. node_forkless then_part (none_first (forks then_part) (forks else_part) parts) (front (CallsForkless call) (calls_of then_part) (calls_of else_part) calls) inner)
-        (node_forkless else_part (none_rest (forks then_part) (forks else_part) parts) (back (CallsForkless call) (calls_of then_part) (calls_of else_part) calls) hold)
-        (node_forkless condition (none_first (forks condition) (forks then_part + forks else_part) e) (front (CallsForkless call) (calls_of condition) (calls_of then_part ++ calls_of else_part) a) hold)
+        let own = CallsForkless call in
+        let calls = back own (calls_of condition) (calls_of then_part ++ calls_of else_part) a in
+        choose_forkless (λ inner. node_branch plan program call then_part inner) (node_branch plan program call else_part hold)
+        (node_branch plan program call condition hold)
+        (λ inner. node_forkless then_part (none_first (forks then_part) (forks else_part) parts) (front own (calls_of then_part) (calls_of else_part) calls) inner)
+        (node_forkless else_part (none_rest (forks then_part) (forks else_part) parts) (back own (calls_of then_part) (calls_of else_part) calls) hold)
+        (node_forkless condition (none_first (forks condition) (forks then_part + forks else_part) e)
+        (front own (calls_of condition) (calls_of then_part ++ calls_of else_part) a) hold)
     goal_forkless (Negation goal) e a hold = negated_forkless hold (node_branch plan program call goal hold) (node_forkless goal e a hold)
     goal_forkless (Quantified own goal) e a hold = node_forkless goal e a hold
 
     pub node_forkless : (goal : Node) → forks goal ≡ 0 → All (calls_of goal) → (hold : Hold) → Forkless (node_branch plan program call goal hold)
-    node_forkless (node goal outputs category span) e a hold = once_forkless (answers_once outputs category) (goal_branch plan program call goal hold) (goal_forkless goal e a hold)
+    node_forkless (node goal outputs category span) e a hold =
+        once_forkless (answers_once outputs category) (goal_branch plan program call goal hold) (goal_forkless goal e a hold)
 
     all_forkless : (goals : Nodes) → all_forks goals ≡ 0 → All (all_calls goals) → (hold : Hold) → Forkless (all_branch plan program call goals hold)
     all_forkless no_nodes e a hold = tt
@@ -198,7 +207,8 @@ module _ (plan : Plan) (program : Program) (call : Procedure → Hold → Branch
         (node_forkless first (none_first (forks first) (all_forks rest) e) (front (CallsForkless call) (calls_of first) (all_calls rest) a) hold)
         (any_forkless rest (none_rest (forks first) (all_forks rest) e) (back (CallsForkless call) (calls_of first) (all_calls rest) a) hold)
 
-    arms_forkless : (arms : Arms) → arm_forks arms ≡ 0 → All (arm_calls arms) → (value : Option Value) (hold : Hold) → Forkless (arms_branch plan program call arms value hold)
+    arms_forkless : (arms : Arms) → arm_forks arms ≡ 0 → All (arm_calls arms) → (value : Option Value) (hold : Hold)
+        → Forkless (arms_branch plan program call arms value hold)
     arms_forkless no_arms e a value hold = tt
     arms_forkless (more_arms symbol body rest) e a value hold =
         arm_forkless value symbol (node_branch plan program call body hold) (arms_branch plan program call rest value hold)

@@ -1,4 +1,5 @@
--- The script of an accepted goal that can reach no `&` is plain: its course forks nothing, and it uses no rights, since the goal holds none and no fork gives any.
+-- The script of an accepted goal that can reach no `&` is plain: its course forks nothing, and so it uses no rights, since the goal holds none and forks alone
+-- give any.
 use Rattle.std.proofs.Common.{◌≡◌, ℕ, zero, suc, ◌+◌, ◌<◌, true, false, List, [], ◌∷◌, length, drop, Option, Some, None, refl, ap, sym, ◌∙◌, subst, arith}
 use Rattle.std.specs.List.{AllByRecursion, Contains, slice_index_or}
 use Rattle.std.specs.Option.{option_map}
@@ -19,14 +20,14 @@ use Rattle.merc_par_split.specs.Sites.{all_sites}
 use Rattle.merc_par_split.specs.Split.{split, all_split}
 use Rattle.merc_par_split.specs.SplitLaws.{calls_of, split_body}
 use Rattle.merc_par_split.proofs.Counting.{split_forks, split_calls}
-use Rattle.merc_gen.specs.Calling.{CanCall, calls, calls_by, HasNoFork}
+use Rattle.merc_gen.specs.Calling.{calls, calls_by, HasNoFork}
 use Rattle.merc_plan.specs.Branch.{Hold, BranchCourse, Over, Breaks, Steps, Finds, Awaits, Gives, Forks, Raised, TooDeep, Starving}
 use Rattle.merc_plan.specs.Hold.{holding}
 use Rattle.merc_plan.specs.Branches.{Plan, node_branch, body_branch, call_branch, first_name, root_branch}
 use Rattle.merc_plan.specs.BranchScript.{script, numbered, no_numbers}
 use Rattle.merc_plan.proofs.Judging.{Quiet}
 use Rattle.merc_carried.specs.Plain.{IsPlain}
-use Rattle.merc_script_laws.specs.ScriptLaws.{goal_script, split_goal, split_plan, split_program}
+use Rattle.merc_script_laws.specs.ScriptLaws.{split_goal, split_plan, split_program}
 use Rattle.merc_script_laws.proofs.AcceptedSound.{IsSoundGoal, IsSoundProgram, accepted_sound, accepted_goal_sound}
 use Rattle.merc_script_laws.proofs.CallTrees.{AllGo}
 use Rattle.merc_script_laws.proofs.Top.{alone_quiet}
@@ -111,14 +112,16 @@ module _ (predicates : List PredDecl) (trees : List Node) (plan : Plan) where
   abbrev Within : ℕ → Type 0
   Within depth = (p : Procedure) → IsFree p → CallsForkless (call_branch plan split_trees depth) p
 
-  goal_within : (depth : ℕ) → Within depth → (site : ℕ) (goal : Node) → HasNoFork program goal → (hold : Hold) → Forkless (node_branch plan split_trees (call_branch plan split_trees depth) (split site goal) hold)
+  goal_within : (depth : ℕ) → Within depth → (site : ℕ) (goal : Node) → HasNoFork program goal → (hold : Hold)
+      → Forkless (node_branch plan split_trees (call_branch plan split_trees depth) (split site goal) hold)
   goal_within depth within site goal none hold =
       node_forkless plan split_trees (call_branch plan split_trees depth) (split site goal) (split_forks site goal ∙ none.none_here)
       (subst (λ (l : List Procedure). AllByRecursion (CallsForkless (call_branch plan split_trees depth)) l) (sym (split_calls site goal))
       (of_own (CallsForkless (call_branch plan split_trees depth)) (calls_of goal) (λ p c. within p (called_free goal none p c))))
       hold
 
-  body_within : (depth : ℕ) → Within depth → (site : ℕ) (place : Option ProcedureBody) → ((body : ProcedureBody) → place ≡ Some body → HasNoFork program body.body) → (hold : Hold)
+  body_within : (depth : ℕ) → Within depth → (site : ℕ) (place : Option ProcedureBody)
+      → ((body : ProcedureBody) → place ≡ Some body → HasNoFork program body.body) → (hold : Hold)
       → Forkless (body_branch plan split_trees (call_branch plan split_trees depth) (option_map (split_body site) place) hold)
   body_within depth within site None free hold = tt
   body_within depth within site (Some body) free hold = goal_within depth within site body.body (free body refl) hold
@@ -130,17 +133,20 @@ module _ (predicates : List PredDecl) (trees : List Node) (plan : Plan) where
       subst (λ (o : Option ProcedureBody). Forkless (body_branch plan split_trees (call_branch plan split_trees depth) o hold)) (sym place.1)
       (body_within depth (within depth) place.0 (program p) free hold)
 
-  pub goal_forkless : (depth site : ℕ) (goal : Node) → HasNoFork program goal → (hold : Hold) → Forkless (node_branch plan split_trees (call_branch plan split_trees depth) (split site goal) hold)
+  pub goal_forkless : (depth site : ℕ) (goal : Node) → HasNoFork program goal → (hold : Hold)
+      → Forkless (node_branch plan split_trees (call_branch plan split_trees depth) (split site goal) hold)
   goal_forkless depth site goal none hold = goal_within depth (within depth) site goal none hold
 
 -- what type variables stand for is not seen
 abbrev any : Instance
 any x = IntType
 
-all_go : (known : Module) (trees : List Node) (sound : IsSoundProgram known trees) (tree : Node) → AllGo known (program_with known.preds trees) (split_plan trees tree) (split_program known.preds trees)
+all_go : (known : Module) (trees : List Node) (sound : IsSoundProgram known trees) (tree : Node)
+    → AllGo known (program_with known.preds trees) (split_plan trees tree) (split_program known.preds trees)
 all_go known trees sound tree types i depth lawful course go n site =
     let program = program_with known.preds trees in
-    goes_node known types i sound.good_types program (call_trace program depth) lawful (split_plan trees tree) (split_program known.preds trees) course go (depth, refl) n site
+    goes_node known types i sound.good_types program (call_trace program depth) lawful (split_plan trees tree) (split_program known.preds trees) course go
+    (depth, refl) n site
 
 pub scripts_are_plain : GoalsWithoutForksArePlain
 scripts_are_plain before after text items found trees is names asked goal accepted tree graded limit few none =

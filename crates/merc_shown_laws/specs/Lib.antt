@@ -3,3 +3,4 @@ pub mod ShownLaws
 pub mod PlainLaws
 pub mod ShowsExamples
 pub mod ShownLawsExamples
+pub mod PlainLawsExamples
