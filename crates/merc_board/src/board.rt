@@ -131,6 +131,8 @@ pub trait Board<L: Load>: Sync + Drop {
         ensures cut { IsCut (starved self.now seat.new hold.new) result }
         ensures made { (before : ℕ) → has_made seat.old before → has_made seat.new (before + (if of_root hold.old then 0 else made)) }
         ensures may_run { MayGoOn (may_run seat.new) (of_root hold.old) result }
+        // so steps can be reported of a branch whose machine found no memory, and of which is not known where it stands
+        ensures runs { (from : Place) → own self.now seat.old hold.old from → runs self.now seat.new hold.new }
         ensures rights { rights hold.new ≡ rights hold.old };
 
     /// A branch that the seat's worker runs from now on, where one is found.

@@ -3,7 +3,6 @@ use Rattle.std.specs.Prelude.{ℕ, ◌<◌, pos, false, [], ◌∷◌, None, IfS
 use Rattle.std.proofs.Common.{arith}
 use Rattle.std.proofs.lemmas.List.Elements.{All-from_recursion}
 use Rattle.merc_goal_tree.specs.declared.goal.Operation.TheVariants.{Subtract}
-use Rattle.merc_goal_tree.specs.declared.goal.Comparison.TheVariants.{Less}
 use Rattle.merc_goal_tree.specs.declared.goal.Symbol.TheVariants.{Constructor}
 use Rattle.merc_code.specs.declared.instruction.Instruction.TheVariants.{Arithmetic, Fork, Signal, Test, Wait}
 use Rattle.merc_code.specs.StepsExamples.{site}

@@ -12,5 +12,7 @@ pub mod Loaded
 pub mod LoadedExamples
 pub mod PassingSum
 pub mod PassingSumExamples
+pub mod Placing
+pub mod PlacingExamples
 pub mod Superinstructions
 pub mod SuperinstructionsExamples
