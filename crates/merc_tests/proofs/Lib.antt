@@ -1,1 +1,2 @@
 mod HandingOver
+mod Stopping

@@ -32,7 +32,7 @@ const DEPTH: u32 = 100;
 
 /// A goal over a module.
 #[derive(Drop)]
-pub struct Asked {
+pub struct Question {
     names: Names,
     // the names of the variables that the answers give values
     variables: Sequence<Name>,
@@ -43,9 +43,9 @@ pub struct Asked {
 }
 
 /// A goal over a module, of these texts.
-pub fn asked(alloc: Global, text: &[u8], goal: &[u8]) -> Result<Asked, Fail>
+pub fn asked(alloc: Global, text: &[u8], goal: &[u8]) -> Result<Question, Fail>
     requires { length text.now ≤ 300000000 }
-    ensures { IfOk result (λ asked. (codes : Codes) × (query : Code) × IsProgram asked.program codes query × ((limit : ℕ) → (course : RunCourse) × YieldsLean codes (start query limit) course)) }
+    ensures { IfOk result (λ question. (codes : Codes) × (query : Code) × IsProgram question.program codes query × ((limit : ℕ) → (course : RunCourse) × YieldsLean codes (start query limit) course)) }
 {
     let text = Text::of(alloc, text)?;
     let mut names = Names::new(alloc);
@@ -71,8 +71,8 @@ fn asked_over(
     mut names: Names,
     checked: &Checked,
     goal: &[u8],
-) -> Result<Asked, Fail>
-    ensures { IfOk result (λ asked. (codes : Codes) × (query : Code) × IsProgram asked.program codes query × ((limit : ℕ) → (course : RunCourse) × YieldsLean codes (start query limit) course)) }
+) -> Result<Question, Fail>
+    ensures { IfOk result (λ question. (codes : Codes) × (query : Code) × IsProgram question.program codes query × ((limit : ℕ) → (course : RunCourse) × YieldsLean codes (start query limit) course)) }
 {
     let goal = Text::of(alloc, goal)?;
     let query = check_query(alloc, checked, &goal, &mut names);
@@ -87,9 +87,9 @@ fn asked_over(
 }
 
 // The same of a goal that is accepted.
-fn ready(alloc: Global, names: Names, checked: &Checked, query: Query) -> Result<Asked, NoMemory>
+fn ready(alloc: Global, names: Names, checked: &Checked, query: Query) -> Result<Question, NoMemory>
     requires { length query.trees ≡ 1 }
-    ensures { IfOk result (λ asked. (codes : Codes) × (query : Code) × IsProgram asked.program codes query × ((limit : ℕ) → (course : RunCourse) × YieldsLean codes (start query limit) course)) }
+    ensures { IfOk result (λ question. (codes : Codes) × (query : Code) × IsProgram question.program codes query × ((limit : ℕ) → (course : RunCourse) × YieldsLean codes (start query limit) course)) }
 {
     let Query {
         goal,
@@ -101,7 +101,7 @@ fn ready(alloc: Global, names: Names, checked: &Checked, query: Query) -> Result
     let planned = planned(alloc, checked, &trees, answers);
     drop(trees);
     match planned {
-        Ok((plan, program)) => Ok(Asked {
+        Ok((plan, program)) => Ok(Question {
             names,
             variables,
             plan,
@@ -168,7 +168,7 @@ fn loaded(
 
 /// What a goal comes to.
 #[derive(Drop)]
-pub struct Told {
+pub struct Found {
     /// The line of each answer, and the end line.
     pub lines: Text,
     /// The steps that the goal's machine counts, those of its conjuncts among them.
@@ -178,22 +178,22 @@ pub struct Told {
 }
 
 /// What a goal comes to in at most so many steps.
-pub fn told(alloc: Global, asked: &Asked, limit: u64) -> Result<Told, NoMemory>
-    requires { (codes : Codes) × (query : Code) × IsProgram asked.now.program codes query × ((limit : ℕ) → (course : RunCourse) × YieldsLean codes (start query limit) course) }
+pub fn told(alloc: Global, question: &Question, limit: u64) -> Result<Found, NoMemory>
+    requires { (codes : Codes) × (query : Code) × IsProgram question.now.program codes query × ((limit : ℕ) → (course : RunCourse) × YieldsLean codes (start query limit) course) }
 {
-    let mut machine = Machine::start(alloc, &asked.program, limit)?;
-    let told = told_of(alloc, asked, &mut machine);
+    let mut machine = Machine::start(alloc, &question.program, limit)?;
+    let told = told_of(alloc, question, &mut machine);
     drop(machine);
     told
 }
 
 // What a goal comes to whose machine is this one.
-fn told_of(alloc: Global, asked: &Asked, machine: &mut Machine<'_>) -> Result<Told, NoMemory>
+fn told_of(alloc: Global, question: &Question, machine: &mut Machine<'_>) -> Result<Found, NoMemory>
     requires means { (course : RunCourse) × Means machine.old course }
     requires fits { all_left machine.old ≤ 18446744073709551615 }
 {
-    let mut driver = Driver::new(alloc, &asked.plan);
-    let told = told_by(alloc, asked, machine, &mut driver);
+    let mut driver = Driver::new(alloc, &question.plan);
+    let told = told_by(alloc, question, machine, &mut driver);
     drop(driver);
     told
 }
@@ -201,19 +201,19 @@ fn told_of(alloc: Global, asked: &Asked, machine: &mut Machine<'_>) -> Result<To
 // The same with a driver that has done nothing yet.
 fn told_by(
     alloc: Global,
-    asked: &Asked,
+    question: &Question,
     machine: &mut Machine<'_>,
     driver: &mut Driver<'_>,
-) -> Result<Told, NoMemory>
+) -> Result<Found, NoMemory>
     requires means { (course : RunCourse) × Means machine.old course }
     requires fits { all_left machine.old ≤ 18446744073709551615 }
 {
     let mut lines = Text::new(alloc);
     let mut rights = Rights::new(alloc);
-    let steps = put_lines(alloc, asked, machine, driver, &mut rights, &mut lines);
+    let steps = put_lines(alloc, question, machine, driver, &mut rights, &mut lines);
     drop(rights);
     match steps {
-        Ok(steps) => Ok(Told {
+        Ok(steps) => Ok(Found {
             lines,
             steps,
             ticks: driver.ticks.count(),
@@ -228,7 +228,7 @@ fn told_by(
 // Puts the line of each answer to which a machine comes, and the end line. Gives the steps that it counts then.
 fn put_lines(
     alloc: Global,
-    asked: &Asked,
+    question: &Question,
     machine: &mut Machine<'_>,
     driver: &mut Driver<'_>,
     rights: &mut Rights,
@@ -241,12 +241,12 @@ fn put_lines(
     for _ in 0..u64::MAX {
         match run_on(driver, machine, rights, DEPTH)? {
             Stop::Answer => {
-                put_answer(alloc, asked, machine, lines)?;
+                put_answer(alloc, question, machine, lines)?;
                 count = count.wrapping_add(1);
             }
             Stop::NoMemory => return Err(NoMemory),
             stop => {
-                put_end(alloc, asked, stop, count, lines)?;
+                put_end(alloc, question, stop, count, lines)?;
                 return Ok(machine.used());
             }
         }
@@ -257,7 +257,7 @@ fn put_lines(
 // Puts the line of the answer at which a machine stands.
 fn put_answer(
     alloc: Global,
-    asked: &Asked,
+    question: &Question,
     machine: &Machine<'_>,
     lines: &mut Text,
 ) -> Result<(), NoMemory> {
@@ -265,7 +265,7 @@ fn put_answer(
     let mut separator: &[u8] = b"";
     for (root, _word) in values.roots().iter().enumerate() {
         lines.push(separator)?;
-        put_value(alloc, asked, &values, root, lines)?;
+        put_value(alloc, question, &values, root, lines)?;
         separator = b", ";
     }
     lines.push(b"\n")
@@ -274,25 +274,25 @@ fn put_answer(
 // Puts `V = value` for the variable of this number among those of the answers.
 fn put_value(
     alloc: Global,
-    asked: &Asked,
+    question: &Question,
     values: &Block,
     number: usize,
     lines: &mut Text,
 ) -> Result<(), NoMemory>
     requires { number < length values.now.roots }
 {
-    let (Some(name), Ok(root)) = (asked.variables.as_slice().get(number), u32::try_from(number)) else {
+    let (Some(name), Ok(root)) = (question.variables.as_slice().get(number), u32::try_from(number)) else {
         return Err(NoMemory);
     };
-    lines.push(text_of(&asked.names, *name))?;
+    lines.push(text_of(&question.names, *name))?;
     lines.push(b" = ")?;
-    write_text(alloc, values, root, &asked.names, lines)
+    write_text(alloc, values, root, &question.names, lines)
 }
 
 // Puts the end line of a run with so many answers.
 fn put_end(
     alloc: Global,
-    asked: &Asked,
+    question: &Question,
     stop: Stop,
     count: u64,
     lines: &mut Text,
@@ -304,7 +304,7 @@ fn put_end(
         }
         Stop::Raised(text) => {
             lines.push(b"uncaught exception: ")?;
-            lines.push(text_of(&asked.names, text))?;
+            lines.push(text_of(&question.names, text))?;
         }
         Stop::LimitPassed => lines.push(b"step limit passed")?,
         Stop::Starved => lines.push(b"starved")?,

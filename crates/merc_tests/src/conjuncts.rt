@@ -1,6 +1,7 @@
 //! Goals with `&` whose conjuncts are run by machines of their own: they come to what the goals are said to come to.
 ghost use Rattle.std.specs.Prelude.{◌≤◌, ℕ};
-ghost use Rattle.merc_course.specs.Course.{RunCourse};
+ghost use Rattle.merc_meaning.specs.Trace.{RunEnd};
+ghost use Rattle.merc_course.specs.Course.{AtFork, Courses, Meets, Reply, RunCourse};
 ghost use Rattle.merc_code.specs.Meaning.{start};
 ghost use Rattle.merc_code.specs.Steps.{Code, Codes};
 ghost use Rattle.merc_code.specs.declared.instruction.Instruction.TheVariants.{Fork};
@@ -9,7 +10,7 @@ ghost use Rattle.merc_load.specs.Loaded.{IsProgram};
 ghost use Rattle.merc_machine.specs.Coming.{MeetsAt, all_left};
 ghost use Rattle.merc_machine.specs.Running.{Means};
 
-use crate::asking::{Asked, asked, told};
+use crate::asking::{Question, asked, told};
 use merc_base::NoMemory;
 use merc_graded_tree::Site;
 use merc_machine::{Machine, Stop, Ticks};
@@ -160,7 +161,7 @@ fn conjuncts_in_threads<R: Threads>(
     site: Site,
 ) -> Result<(Option<u64>, Option<u64>), NoMemory>
     requires at { MeetsAt parent.now (Fork site) }
-    requires means { (course : RunCourse) × Means parent.now course }
+    requires means { (forked : Courses RunEnd) × (next : Reply → RunCourse) × Means parent.now (Meets (AtFork site.number) forked next) }
     requires fits { all_left parent.now ≤ 18446744073709551615 }
 {
     if !parent.has_child(site, 0) || !parent.has_child(site, 1) {
@@ -175,12 +176,12 @@ fn conjuncts_in_threads<R: Threads>(
 fn first_conjuncts<R: Threads>(
     rt: &R,
     alloc: Global,
-    asked: &Asked,
+    question: &Question,
 ) -> Result<(Option<u64>, Option<u64>), NoMemory>
-    requires { (codes : Codes) × (query : Code) × IsProgram asked.now.program codes query × ((limit : ℕ) → (course : RunCourse) × YieldsLean codes (start query limit) course) }
+    requires { (codes : Codes) × (query : Code) × IsProgram question.now.program codes query × ((limit : ℕ) → (course : RunCourse) × YieldsLean codes (start query limit) course) }
 {
     let mut ticks = Ticks::new();
-    let mut machine = Machine::start(alloc, &asked.program, 1000)?;
+    let mut machine = Machine::start(alloc, &question.program, 1000)?;
     let steps = match machine.run(255, &mut ticks) {
         Stop::AtFork(site) => conjuncts_in_threads(rt, alloc, &machine, site),
         _ => Ok((None, None)),

@@ -1,10 +1,13 @@
 //! Machines that meet others, run by hand on one thread: each conjunct of a fork to its end before the next one, with the
 //! values that they hand on in cells.
-ghost use Rattle.std.specs.Prelude.{◌≡◌, ◌≤◌, IfNone, IfOk, IfSome, OnOk, Some, length};
-ghost use Rattle.merc_course.specs.Course.{RunCourse};
+ghost use Rattle.std.specs.Prelude.{◌≡◌, ◌≤◌, not, IfNone, IfOk, IfSome, OnOk, Some};
+ghost use Rattle.std.specs.Option.{is_some};
+ghost use Rattle.merc_value.specs.Value.{Value};
+ghost use Rattle.merc_meaning.specs.Trace.{RunEnd};
+ghost use Rattle.merc_course.specs.Course.{AtFork, AtSignal, AtWait, Courses, Meets, Reply, RunCourse};
 ghost use Rattle.merc_code.specs.declared.instruction.Instruction.TheVariants.{Fork, Wait, Signal};
 ghost use Rattle.merc_machine.specs.Coming.{MeetsAt, all_left};
-ghost use Rattle.merc_machine.specs.Running.{Means, steps_in};
+ghost use Rattle.merc_machine.specs.Running.{Means, steps_in, stop_by};
 ghost use Rattle.merc_machine.specs.declared.running.Stop.TheVariants.{Answer, NoMemory as RefusedMemory};
 
 use crate::rights::Rights;
@@ -137,7 +140,7 @@ fn run_fork(
     depth: u32,
 ) -> Result<Option<Stop>, NoMemory>
     requires at { MeetsAt machine.old (Fork site) }
-    requires means { (course : RunCourse) × Means machine.old course }
+    requires means { (forked : Courses RunEnd) × (next : Reply → RunCourse) × Means machine.old (Meets (AtFork site.number) forked next) }
     requires fits { all_left machine.old ≤ 18446744073709551615 }
     ensures goes_on { IfOk result (λ stop. IfNone stop ((course : RunCourse) × Means machine.new course)) }
     ensures means { IfOk result (λ stop. stop ≡ Some Answer → (course : RunCourse) × Means machine.new course) }
@@ -155,16 +158,27 @@ fn join_at(
     ticks: &mut Ticks,
 ) -> Option<Stop>
     requires at { MeetsAt machine.old (Fork site) }
-    requires means { (course : RunCourse) × Means machine.old course }
+    requires means { (forked : Courses RunEnd) × (next : Reply → RunCourse) × Means machine.old (Meets (AtFork site.number) forked next) }
     requires within { steps_in outcome ≤ all_left machine.old }
     ensures goes_on { IfNone result ((course : RunCourse) × Means machine.new course) }
     ensures ends { result ≡ Some Answer → ⊥ }
     ensures spends { all_left machine.new ≤ all_left machine.old }
 {
+    let is_fine = is_fine(&outcome);
     machine.rejoin(site, outcome);
+    if is_fine {
+        return None;
+    }
+    Some(machine.run(SLICE, ticks))
+}
+
+// Whether a machine goes on behind a fork of this outcome.
+fn is_fine(outcome: &Outcome) -> bool
+    ensures { is_some (stop_by outcome.now) ≡ not result }
+{
     match outcome {
-        Outcome::Ok(_) => None,
-        _ => Some(machine.run(SLICE, ticks)),
+        Outcome::Ok(_) => true,
+        Outcome::Raise(..) | Outcome::Limit | Outcome::Starved | Outcome::NoMemory => false,
     }
 }
 
@@ -178,7 +192,7 @@ fn run_conjuncts(
     depth: u32,
 ) -> Result<Outcome, NoMemory>
     requires at { MeetsAt machine.now (Fork site) }
-    requires means { (course : RunCourse) × Means machine.now course }
+    requires means { (forked : Courses RunEnd) × (next : Reply → RunCourse) × Means machine.now (Meets (AtFork site.number) forked next) }
     requires fits { all_left machine.now ≤ 18446744073709551615 }
     ensures within { IfOk result (λ outcome. steps_in outcome ≤ all_left machine.now) }
 {
@@ -233,7 +247,7 @@ fn run_conjunct(
     depth: u32,
 ) -> Result<Outcome, NoMemory>
     requires at { MeetsAt parent.now (Fork site) }
-    requires means { (course : RunCourse) × Means parent.now course }
+    requires means { (forked : Courses RunEnd) × (next : Reply → RunCourse) × Means parent.now (Meets (AtFork site.number) forked next) }
     requires fits { all_left parent.now ≤ 18446744073709551615 }
 {
     if depth == 0 || !parent.has_child(site, number) {
@@ -273,7 +287,7 @@ fn wait(
     variable: Var,
 ) -> Result<Option<Stop>, NoMemory>
     requires at { MeetsAt machine.old (Wait variable) }
-    requires means { (course : RunCourse) × Means machine.old course }
+    requires means { (forked : Courses RunEnd) × (next : Reply → RunCourse) × Means machine.old (Meets (AtWait variable) forked next) }
     ensures goes_on { IfOk result (λ stop. IfNone stop ((course : RunCourse) × Means machine.new course)) }
     ensures ends { IfOk result (λ stop. stop ≡ Some Answer → ⊥) }
     ensures spends { IfOk result (λ stop. all_left machine.new ≡ all_left machine.old) }
@@ -294,7 +308,7 @@ fn wait(
 // Gives a machine a value for which it waits, and goes on behind the wait.
 fn give(machine: &mut Machine<'_>, variable: Var, value: &Block) -> Result<(), NoMemory>
     requires at { MeetsAt machine.old (Wait variable) }
-    requires means { (course : RunCourse) × Means machine.old course }
+    requires means { (forked : Courses RunEnd) × (next : Reply → RunCourse) × Means machine.old (Meets (AtWait variable) forked next) }
     ensures goes_on { OnOk result ((course : RunCourse) × Means machine.new course) }
     ensures spends { OnOk result (all_left machine.new ≡ all_left machine.old) }
 {
@@ -312,7 +326,7 @@ fn signal(
     variable: Var,
 ) -> Result<Option<Stop>, NoMemory>
     requires at { MeetsAt machine.old (Signal variable) }
-    requires means { (course : RunCourse) × Means machine.old course }
+    requires means { (value : Value) × (forked : Courses RunEnd) × (next : Reply → RunCourse) × Means machine.old (Meets (AtSignal variable value) forked next) }
     ensures goes_on { IfOk result (λ stop. (course : RunCourse) × Means machine.new course) }
     ensures ends { IfOk result (λ stop. IfSome stop (λ last. ⊥)) }
     ensures spends { IfOk result (λ stop. all_left machine.new ≡ all_left machine.old) }

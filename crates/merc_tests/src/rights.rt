@@ -61,13 +61,8 @@ impl Rights {
             consumer: one.consumer,
             cell,
         };
-        if one.consumer == conjunct {
-            self.waits.push(right)?;
-        }
-        if one.producer == conjunct {
-            self.signals.push(right)?;
-        }
-        Ok(())
+        put_if(one.consumer == conjunct, &right, &mut self.waits)?;
+        put_if(one.producer == conjunct, &right, &mut self.signals)
     }
 
     /// Puts those rights of another branch behind the others that move into a conjunct, or, for 0, that move into none.
@@ -75,6 +70,14 @@ impl Rights {
         put_moved(moves, false, &from.waits, conjunct, &mut self.waits)?;
         put_moved(moves, true, &from.signals, conjunct, &mut self.signals)
     }
+}
+
+// Puts a right behind others if it is to be put.
+fn put_if(is_put: bool, right: &Right, into: &mut Vec<Right>) -> Result<(), NoMemory> {
+    if is_put {
+        into.push(*right)?;
+    }
+    Ok(())
 }
 
 // The place of the first right for a variable.
