@@ -6,7 +6,7 @@ use Rattle.merc_course.specs.Course.{Meeting, AtFork as ForkMeeting, AtWait as W
 use Rattle.merc_machine.specs.declared.machine.Machine.{Machine}
 use Rattle.merc_machine.specs.declared.running.Stop.{Stop}
 use Rattle.merc_machine.specs.declared.running.Stop.TheVariants.{Answer as AnswerStop, Ended, Raised, LimitPassed as LimitStop, Starved, AtFork, AtWait, AtSignal, SliceOver, NoMemory as NoMemoryStop}
-use Rattle.merc_machine.specs.Running.{CameTo, HasAnswered, Means, Ran, RanTo, behind_steps}
+use Rattle.merc_machine.specs.Running.{HasAnswered, Means, Ran, RanTo, behind_steps}
 use Rattle.merc_solving.specs.Solving.{StopsAlone}
 
 -- a run behind so many steps

@@ -11,7 +11,7 @@ use Rattle.merc_meaning.specs.Runs.{Program, run}
 use Rattle.merc_meaning.specs.Shown.{shown}
 use Rattle.merc_course.specs.Course.{whole}
 use Rattle.merc_course.specs.Alone.{MeetsNobody, ProgramMeetsNobody}
-use Rattle.merc_code.specs.Steps.{Code, Codes}
+use Rattle.merc_code.specs.Steps.{Code}
 use Rattle.merc_code.specs.ProgramCode.{ProgramCode, codes_in}
 use Rattle.merc_code.specs.Meaning.{start}
 use Rattle.merc_gen.specs.Generated.{codes_of, query_code}

@@ -16,10 +16,10 @@ returns-in_err-machine g c =
 pub put_run-requires-clause-means : goal.put_run-requires-clause-means
 put_run-requires-clause-means g c =
     let makes = c.requires.makes.1 in
-    let starts = c.in_ok-machine.ensures makes.codes makes.query makes.program (whole c.requires.makes.0) makes.yields in
-    (c.requires.makes.0, starts.0)
+    let starts = c.in_ok-machine.ensures.starts makes.codes makes.query makes.program (whole c.requires.makes.0) makes.yields in
+    (c.requires.makes.0, starts)
 
 pub returns : goal.returns
 returns g c = λ asked makes.
-    let starts = c.in_ok-machine.ensures makes.codes makes.query makes.program (whole asked) makes.yields in
-    c.put_run.ensures asked starts.0
+    let starts = c.in_ok-machine.ensures.starts makes.codes makes.query makes.program (whole asked) makes.yields in
+    c.put_run.ensures asked starts

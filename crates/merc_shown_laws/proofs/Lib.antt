@@ -1,0 +1,6 @@
+pub mod RunOf
+pub mod JoinedRuns
+pub mod ValuesBehind
+pub mod Showing
+pub mod AskedGoals
+pub mod Roots

@@ -1,0 +1,4 @@
+pub mod Shows
+pub mod ShownLaws
+pub mod ShowsExamples
+pub mod ShownLawsExamples
