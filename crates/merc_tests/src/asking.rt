@@ -88,7 +88,6 @@ fn asked_over(
 
 // The same of a goal that is accepted.
 fn ready(alloc: Global, names: Names, checked: &Checked, query: Query) -> Result<Question, NoMemory>
-    requires { length query.trees ≡ 1 }
     ensures { IfOk result (λ question. (codes : Codes) × (query : Code) × IsProgram question.program codes query × ((limit : ℕ) → (course : RunCourse) × YieldsLean codes (start query limit) course)) }
 {
     let Query {
@@ -122,12 +121,10 @@ fn planned(
     trees: &Nodes,
     answers: Vars,
 ) -> Result<(Plan, Loaded), NoMemory>
-    requires { length trees.now ≡ 1 }
     ensures { IfOk result (λ planned. (codes : Codes) × (query : Code) × IsProgram planned.1 codes query × ((limit : ℕ) → (course : RunCourse) × YieldsLean codes (start query limit) course)) }
 {
-    let goal = match trees.get(0) {
-        Some(goal) => goal,
-        None => unreachable!(),
+    let Some(goal) = trees.get(0) else {
+        return Err(NoMemory);
     };
     let Split {
         trees: procedures,
@@ -153,13 +150,12 @@ fn loaded(
     goals: &Nodes,
     answers: Vars,
 ) -> Result<Loaded, NoMemory>
-    requires { length goals.now ≡ 1 }
     ensures { IfOk result (λ program. (trees : List Node) (goal : Node) → procedures.now ≡ all_split 0 trees → goals.now ≡ split (length (all_sites trees)) goal ∷ []
         → (codes : Codes) × (query : Code) × IsProgram program codes query × ((limit : ℕ) → (course : RunCourse) × YieldsLean codes (start query limit) course)) }
 {
     let goal = match goals.get(0) {
         Some(goal) => goal,
-        None => unreachable!(),
+        None => return Err(NoMemory),
     };
     let preds = checked.module().preds.as_slice();
     let code = generate(alloc, preds, procedures, &goal, answers)?;
@@ -281,7 +277,10 @@ fn put_value(
 ) -> Result<(), NoMemory>
     requires { number < length values.now.roots }
 {
-    let (Some(name), Ok(root)) = (question.variables.as_slice().get(number), u32::try_from(number)) else {
+    let (Some(name), Ok(root)) = (
+        question.variables.as_slice().get(number),
+        u32::try_from(number),
+    ) else {
         return Err(NoMemory);
     };
     lines.push(text_of(&question.names, *name))?;

@@ -65,9 +65,30 @@ fn steps_of(alloc: Global, goal: &[u8], limit: u64) -> Result<(u64, u64), Fail> 
 #[test]
 fn values_go_from_one_conjunct_to_another(rt: HostRuntime) -> Result<(), Fail> {
     let alloc = rt.alloc();
-    assert!(rt; comes_to(alloc, b"( X = 1, fail ; X = 2 ) & Y = X + 1", 100, b"X = 2, Y = 3\nsolutions 1\n")?);
-    assert!(rt; comes_to(alloc, b"f(1, A) & f(A, B) & g(A, C) & D = A + B", 100, b"A = 2, B = 3, C = 20, D = 5\nsolutions 1\n")?);
-    assert!(rt; comes_to(alloc, b"L = [1, 2] & ( L = [H | T], f(H, A) )", 100, b"L = [1, 2], H = 1, T = [2], A = 2\nsolutions 1\n")?);
+    assert!(rt;
+        comes_to(
+            alloc,
+            b"( X = 1, fail ; X = 2 ) & Y = X + 1",
+            100,
+            b"X = 2, Y = 3\nsolutions 1\n"
+        )?
+    );
+    assert!(rt;
+        comes_to(
+            alloc,
+            b"f(1, A) & f(A, B) & g(A, C) & D = A + B",
+            100,
+            b"A = 2, B = 3, C = 20, D = 5\nsolutions 1\n"
+        )?
+    );
+    assert!(rt;
+        comes_to(
+            alloc,
+            b"L = [1, 2] & ( L = [H | T], f(H, A) )",
+            100,
+            b"L = [1, 2], H = 1, T = [2], A = 2\nsolutions 1\n"
+        )?
+    );
     Ok(())
 }
 
@@ -85,10 +106,24 @@ fn a_fork_is_come_to_again(rt: HostRuntime) -> Result<(), Fail> {
 #[test]
 fn rights_move_into_inner_conjuncts(rt: HostRuntime) -> Result<(), Fail> {
     let alloc = rt.alloc();
-    assert!(rt; comes_to(alloc, b"f(1, A) & ( g(A, B) & f(B, C) )", 100, b"A = 2, B = 20, C = 21\nsolutions 1\n")?);
+    assert!(rt;
+        comes_to(
+            alloc,
+            b"f(1, A) & ( g(A, B) & f(B, C) )",
+            100,
+            b"A = 2, B = 20, C = 21\nsolutions 1\n"
+        )?
+    );
     assert!(rt; comes_to(alloc, b"deep(1, D)", 100, b"D = 14\nsolutions 1\n")?);
     assert!(rt; comes_to(alloc, b"sum(3, S)", 100, b"S = 9\nsolutions 1\n")?);
-    assert!(rt; comes_to(alloc, b"deep(1, D) & sum(D, S)", 100, b"D = 14, S = 119\nsolutions 1\n")?);
+    assert!(rt;
+        comes_to(
+            alloc,
+            b"deep(1, D) & sum(D, S)",
+            100,
+            b"D = 14, S = 119\nsolutions 1\n"
+        )?
+    );
     Ok(())
 }
 
@@ -96,11 +131,39 @@ fn rights_move_into_inner_conjuncts(rt: HostRuntime) -> Result<(), Fail> {
 #[test]
 fn the_leftmost_end_decides(rt: HostRuntime) -> Result<(), Fail> {
     let alloc = rt.alloc();
-    assert!(rt; comes_to(alloc, b"error(\"a\") & error(\"b\")", 100, b"uncaught exception: a\n")?);
-    assert!(rt; comes_to(alloc, b"late(3, A) & spin(0, B)", 100, b"uncaught exception: late\n")?);
-    assert!(rt; comes_to(alloc, b"spin(0, A) & error(\"b\")", 100, b"step limit passed\n")?);
+    assert!(rt;
+        comes_to(
+            alloc,
+            b"error(\"a\") & error(\"b\")",
+            100,
+            b"uncaught exception: a\n"
+        )?
+    );
+    assert!(rt;
+        comes_to(
+            alloc,
+            b"late(3, A) & spin(0, B)",
+            100,
+            b"uncaught exception: late\n"
+        )?
+    );
+    assert!(rt;
+        comes_to(
+            alloc,
+            b"spin(0, A) & error(\"b\")",
+            100,
+            b"step limit passed\n"
+        )?
+    );
     // a value that does not come
-    assert!(rt; comes_to(alloc, b"late(3, A) & f(A, B)", 100, b"uncaught exception: late\n")?);
+    assert!(rt;
+        comes_to(
+            alloc,
+            b"late(3, A) & f(A, B)",
+            100,
+            b"uncaught exception: late\n"
+        )?
+    );
     assert!(rt; comes_to(alloc, b"spin(0, A) & f(A, B)", 100, b"step limit passed\n")?);
     Ok(())
 }
@@ -109,10 +172,38 @@ fn the_leftmost_end_decides(rt: HostRuntime) -> Result<(), Fail> {
 #[test]
 fn steps_are_added_up(rt: HostRuntime) -> Result<(), Fail> {
     let alloc = rt.alloc();
-    assert!(rt; comes_to(alloc, b"count(60, A) & late(40, B)", 100, b"uncaught exception: late\n")?);
-    assert!(rt; comes_to(alloc, b"count(60, A) & late(41, B)", 100, b"step limit passed\n")?);
-    assert!(rt; comes_to(alloc, b"count(60, A) & mix(A, 40, B)", 101, b"A = 0, B = 0\nsolutions 1\n")?);
-    assert!(rt; comes_to(alloc, b"count(60, A) & mix(A, 40, B)", 100, b"step limit passed\n")?);
+    assert!(rt;
+        comes_to(
+            alloc,
+            b"count(60, A) & late(40, B)",
+            100,
+            b"uncaught exception: late\n"
+        )?
+    );
+    assert!(rt;
+        comes_to(
+            alloc,
+            b"count(60, A) & late(41, B)",
+            100,
+            b"step limit passed\n"
+        )?
+    );
+    assert!(rt;
+        comes_to(
+            alloc,
+            b"count(60, A) & mix(A, 40, B)",
+            101,
+            b"A = 0, B = 0\nsolutions 1\n"
+        )?
+    );
+    assert!(rt;
+        comes_to(
+            alloc,
+            b"count(60, A) & mix(A, 40, B)",
+            100,
+            b"step limit passed\n"
+        )?
+    );
     assert!(rt; steps_of(alloc, b"count(60, A) & mix(A, 40, B)", 101)? == (101, 101));
     assert!(rt; steps_of(alloc, b"deep(1, D)", 100)? == (5, 5));
     assert!(rt; steps_of(alloc, b"sum(3, S)", 100)? == (7, 7));
@@ -128,7 +219,8 @@ fn steps_before_meeting(mut machine: Machine<'_>) -> Option<u64>
 {
     let mut ticks = Ticks::new();
     match machine.run(255, &mut ticks) {
-        Stop::AtWait(_) | Stop::AtSignal(_) => Some(machine.used()),
+        Stop::AtWait(_) => Some(machine.used()),
+        Stop::AtSignal(_) => Some(machine.used()),
         _ => None,
     }
 }

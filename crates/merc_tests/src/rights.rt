@@ -66,7 +66,12 @@ impl Rights {
     }
 
     /// Puts those rights of another branch behind the others that move into a conjunct, or, for 0, that move into none.
-    pub fn add_moved(&mut self, moves: &[Moved], from: &Rights, conjunct: usize) -> Result<(), NoMemory> {
+    pub fn add_moved(
+        &mut self,
+        moves: &[Moved],
+        from: &Rights,
+        conjunct: usize,
+    ) -> Result<(), NoMemory> {
         put_moved(moves, false, &from.waits, conjunct, &mut self.waits)?;
         put_moved(moves, true, &from.signals, conjunct, &mut self.signals)
     }
