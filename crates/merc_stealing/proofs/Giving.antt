@@ -36,6 +36,10 @@ module _ {L : Type 0} (table : TableId) (room : ℕ) where
   less_room load has kid is = let w = is.rooms.waits in let s = is.rooms.signals in
       record { same = is.same; kid = is.kid; rooms = record { waits = omega (arith, w); signals = omega (arith, s) }; given = is.given }
 
+  -- room for one right less
+  pub less_rooms : (loads : List L) (has : ℕ → Rights) (kids : List (Box (Branch L (Hold L)) Global)) → AreFor table (room + 1) loads has kids → AreFor table room loads has kids
+  less_rooms loads has kids are = record { count = are.count; each = λ i x at. let m = are.each i x at in (m.0, m.1, less_room m.0 (has (suc i)) x.value m.2) }
+
   one_wait : (load : L) (has : Rights) (right : HeldWait L) (old new : Branch L (Hold L)) → IsFor table (room + 1) load has old → IsNamed table (consumer_name right.end) → GotWait right old new
       → IsFor table room load (record { waits = has.waits ++ due_of right ∷ []; signals = has.signals }) new
   one_wait load has right old new is named got =

@@ -1,17 +1,20 @@
 -- A parent's rights, one after the other, move into children or stay.
-use Rattle.std.proofs.Common.{◌≡◌, ◌≢◌, ℕ, zero, suc, ◌+◌, Bool, true, false, eqb, eq-eqb, ne_eqb, List, [], ◌∷◌, ◌++◌, refl, sym, ap, ◌∙◌, subst, arith}
+use Rattle.std.proofs.Common.{◌≡◌, ◌≢◌, ℕ, zero, suc, ◌+◌, Bool, true, false, eqb, eq-eqb, ne_eqb, List, [], ◌∷◌, ◌++◌, map, length, refl, sym, ap, ◌∙◌, subst, arith}
 use Rattle.std.specs.Prelude.{Option, Some, None, if◌then◌else◌, ◌==◌}
 use Rattle.std.specs.List.{filter}
 use Rattle.std.specs.declared.boxed.Box.{Box}
 use Rattle.std.specs.declared.alloc.Global.{Global}
-use Rattle.std.proofs.lemmas.List.{append_assoc}
+use Rattle.std.proofs.lemmas.List.{append_assoc, append-nil, map-append}
 use mathlib.Core.Logic.{dite}
 use native.Mathlib.Decide.{ℕ_discrete}
 use Rattle.atomic_table.specs.Seated.{TableId}
 use Rattle.merc_board.specs.declared.branch.Branch.{Branch}
 use Rattle.merc_board.specs.declared.fork.Handover.{Handover}
 use Rattle.merc_board.specs.Rights.{Due, Owed, Rights, child_for, goes_to, stays, waits_into, signals_into, waits_kept, signals_kept}
+use Rattle.merc_stealing.specs.declared.branch.HeldWait.{HeldWait}
+use Rattle.merc_stealing.specs.declared.branch.HeldSignal.{HeldSignal}
 use Rattle.merc_stealing.specs.declared.branch.Hold.{Hold}
+use Rattle.merc_stealing.specs.Lying.{due_of, owed_of}
 use Rattle.merc_stealing.specs.Kids.{IsFor, AreFor, with_wait, with_signal, with_waits, with_signals}
 
 one_more_over : {A : Type 0} (b c : Bool) (y x : A) (f g : List A) → g ≡ (if c then f ++ x ∷ [] else f)
@@ -80,3 +83,38 @@ keeps_signal moves ws owed to = filter_more (λ right. stays (child_for true rig
 
 pub gives_signal_away : (moves : List Handover) (ws : List Owed) (owed : Owed) (child : ℕ) → child_for true owed.variable moves ≡ Some child → signals_kept moves (ws ++ owed ∷ []) ≡ signals_kept moves ws
 gives_signal_away moves ws owed child to = filter_more (λ right. stays (child_for true right.variable moves)) ws owed ∙ ap (λ o. if stays o then signals_kept moves ws ++ owed ∷ [] else signals_kept moves ws) to
+
+-- .. behind what it had
+module _ {L : Type 0} where
+  pub keeps_wait_more : (moves : List Handover) (had before : List Due) (right : HeldWait L) (old new : List (HeldWait L)) → new ≡ old ++ right ∷ [] → child_for false (due_of right).variable moves ≡ None
+      → map due_of old ≡ had ++ waits_kept moves before → map due_of new ≡ had ++ waits_kept moves (before ++ due_of right ∷ [])
+  keeps_wait_more moves had before right old new is to was = ap (map due_of) is ∙ map-append due_of old (right ∷ []) ∙ ap (λ l. l ++ due_of right ∷ []) was ∙ append_assoc had (waits_kept moves before) (due_of right ∷ [])
+      ∙ ap (λ l. had ++ l) (sym (keeps_wait moves before (due_of right) to))
+
+  pub keeps_signal_more : (moves : List Handover) (had before : List Owed) (right : HeldSignal L) (old new : List (HeldSignal L)) → new ≡ old ++ right ∷ [] → child_for true (owed_of right).variable moves ≡ None
+      → map owed_of old ≡ had ++ signals_kept moves before → map owed_of new ≡ had ++ signals_kept moves (before ++ owed_of right ∷ [])
+  keeps_signal_more moves had before right old new is to was = ap (map owed_of) is ∙ map-append owed_of old (right ∷ []) ∙ ap (λ l. l ++ owed_of right ∷ []) was ∙ append_assoc had (signals_kept moves before) (owed_of right ∷ [])
+      ∙ ap (λ l. had ++ l) (sym (keeps_signal moves before (owed_of right) to))
+
+-- one right less is to be handed out
+pub fewer : {A L : Type 0} (table : TableId) (room : ℕ) (loads : List L) (has : ℕ → Rights) (kids : List (Box (Branch L (Hold L)) Global)) (rest more : List A) (x : A) → rest ≡ x ∷ more
+    → AreFor table (length rest + room) loads has kids → AreFor table ((length more + room) + 1) loads has kids
+fewer table room loads has kids rest more x is are = subst (λ (n : ℕ). AreFor table n loads has kids) (let one = ap length is in omega (arith, one)) are
+
+pub as_waits : {L : Type 0} (table : TableId) (room : ℕ) (loads : List L) (moves : List Handover) (has : ℕ → Rights) (kids : List (Box (Branch L (Hold L)) Global)) (l m : List Due) → l ≡ m
+    → AreFor table room loads (with_waits moves l has) kids → AreFor table room loads (with_waits moves m has) kids
+as_waits table room loads moves has kids l m same are = subst (λ (x : List Due). AreFor table room loads (with_waits moves x has) kids) same are
+
+pub as_signals : {L : Type 0} (table : TableId) (room : ℕ) (loads : List L) (moves : List Handover) (has : ℕ → Rights) (kids : List (Box (Branch L (Hold L)) Global)) (l m : List Owed) → l ≡ m
+    → AreFor table room loads (with_signals moves l has) kids → AreFor table room loads (with_signals moves m has) kids
+as_signals table room loads moves has kids l m same are = subst (λ (x : List Owed). AreFor table room loads (with_signals moves x has) kids) same are
+
+pub begin_waits : {L : Type 0} (table : TableId) (room : ℕ) (loads : List L) (moves : List Handover) (has : ℕ → Rights) (kids : List (Box (Branch L (Hold L)) Global)) (l rest : List (HeldWait L)) → rest ≡ l
+    → AreFor table (length l + room) loads has kids → AreFor table (length rest + room) loads (with_waits moves [] has) kids
+begin_waits {L} table room loads moves has kids l rest same are = subst (λ (r : List (HeldWait L)). AreFor table (length r + room) loads (with_waits moves [] has) kids) (sym same)
+    (are_same table (length l + room) loads has (with_waits moves [] has) kids (λ number. λ i. record { waits = sym (append-nil (has number).waits) i; signals = (has number).signals }) are)
+
+pub begin_signals : {L : Type 0} (table : TableId) (room : ℕ) (loads : List L) (moves : List Handover) (has : ℕ → Rights) (kids : List (Box (Branch L (Hold L)) Global)) (l rest : List (HeldSignal L)) → rest ≡ l
+    → AreFor table (length l + room) loads has kids → AreFor table (length rest + room) loads (with_signals moves [] has) kids
+begin_signals {L} table room loads moves has kids l rest same are = subst (λ (r : List (HeldSignal L)). AreFor table (length r + room) loads (with_signals moves [] has) kids) (sym same)
+    (are_same table (length l + room) loads has (with_signals moves [] has) kids (λ number. λ i. record { waits = (has number).waits; signals = sym (append-nil (has number).signals) i }) are)

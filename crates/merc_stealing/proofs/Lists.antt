@@ -34,3 +34,11 @@ all_more Q l m x is all new = subst (All Q) (sym is) (one_end Q l x all new)
     one_end Q [] x all new (suc k) d near = absurd (omega (arith, near))
     one_end Q (y ∷ ys) x all new zero d near = all zero d (omega arith)
     one_end Q (y ∷ ys) x all new (suc k) d near = one_end Q ys x (λ j e close. all (suc j) e (omega (arith, close))) new k d (omega (arith, near))
+
+-- what all of a list are, an item is that stands behind others
+pub all_at : {A : Type 0} (Q : A → Type 0) (front rest more whole : List A) (x : A) → front ++ rest ≡ whole → rest ≡ x ∷ more → All Q whole → Q x
+all_at Q front rest more whole x is begins all = there Q front x more (subst (All Q) (sym (ap (λ l. front ++ l) (sym begins) ∙ is)) all)
+  where
+    there : {A : Type 0} (Q : A → Type 0) (front : List A) (x : A) (more : List A) → All Q (front ++ x ∷ more) → Q x
+    there Q [] x more all = all zero x (omega arith)
+    there Q (y ∷ ys) x more all = there Q ys x more (λ k d near. all (suc k) d (omega (arith, near)))

@@ -12,8 +12,8 @@ use crate::seat::Room;
 use merc_board::{Handover, Load};
 use merc_goal_tree::Var;
 
-// The child into which the rights to signal a variable move.
-fn child_to_signal(variable: Var, given: &[Handover]) -> Option<usize>
+/// The child into which the rights to signal a variable move.
+pub(crate) fn child_to_signal(variable: Var, given: &[Handover]) -> Option<usize>
     ensures { result ≡ child_for true variable given.now }
 {
     for one in given {
@@ -24,8 +24,8 @@ fn child_to_signal(variable: Var, given: &[Handover]) -> Option<usize>
     None
 }
 
-// The child into which the rights to wait for a variable move.
-fn child_to_wait(variable: Var, given: &[Handover]) -> Option<usize>
+/// The child into which the rights to wait for a variable move.
+pub(crate) fn child_to_wait(variable: Var, given: &[Handover]) -> Option<usize>
     ensures { result ≡ child_for false variable given.now }
 {
     for one in given {
