@@ -8,3 +8,5 @@ mod Dealing
 mod Picking
 mod Giving
 mod Handing
+mod HandLaws
+mod Forming

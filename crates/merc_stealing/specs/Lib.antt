@@ -11,3 +11,4 @@ pub mod Memory
 pub mod Kids
 pub mod Sharing
 pub mod Picking
+pub mod Hands

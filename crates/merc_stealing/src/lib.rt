@@ -7,6 +7,7 @@ pub mod branch;
 pub mod calls;
 pub mod cells;
 pub mod children;
+pub mod facing;
 pub mod formed;
 pub mod freeing;
 pub mod making;

@@ -1,0 +1,5 @@
+use Rattle.merc_stealing.proofs.HandLaws.{kept_own}
+use Rattle.merc_stealing.proofs.facing.StealingBoardBoard.signal_right.Goals as goal
+
+pub returns-clause-own : goal.returns-clause-own
+returns-clause-own g c board seat at own = (own.0, kept_own g.M.Load.root g.N.Room.table c.args.hold.now c.take_signal.new.hold at c.take_signal.ensures.kept own.1)
