@@ -15,7 +15,10 @@ use Rattle.merc_yard.specs.declared.spot.Spot.{Spot}
 use Rattle.merc_yard.specs.declared.spot.Purpose.TheVariants.{Ready}
 use Rattle.merc_yard.specs.Slots.{spot}
 use Rattle.merc_board.specs.Going.{start, next}
-use Rattle.merc_board.specs.Boarding.{MayEnd as MayEndAs, MayGoOn, at_end, lost, lost_at, lost_starved, starves, IsJoined}
+use Rattle.merc_board.specs.Rights.{Rights}
+use Rattle.merc_board.specs.declared.fork.SharedCell.{SharedCell}
+use Rattle.merc_board.specs.declared.fork.Handover.{Handover}
+use Rattle.merc_board.specs.Boarding.{MayEnd as MayEndAs, Prepares, MayGoOn, at_end, lost, lost_at, lost_starved, starves, IsJoined}
 use Rattle.merc_board.specs.declared.branch.Pace.TheVariants.{On}
 use Rattle.merc_stealing.specs.declared.branch.Hold.{Hold}
 use Rattle.merc_stealing.specs.Spots.{place, parked}
@@ -94,3 +97,22 @@ kept_runs {L} root table old new kept runs = record {
 pub may_go_on : (is_root : Bool) → MayGoOn (Unit {0}) is_root On
 may_go_on true = tt
 may_go_on false = tt
+
+-- what is asked of a fork
+pub prepares : {L T : Type 0} (root : Script) (table : TableId) (thieves : List (Thief T)) (passes : List (Pass T (Known T) Global)) (hold : Hold L) (forked stands : L → Rights → Place → Type 0) (load : L) (rights : Rights) (shared : List SharedCell)
+    (given : List Handover) (limit : ℕ) (loads : List L) → Prepares (OwnOf root table thieves passes hold) forked stands load rights shared given limit loads → ArePasses thieves passes × Prepares (Own root table hold) forked stands load rights shared given limit loads
+prepares root table thieves passes hold forked stands load rights shared given limit loads p = (p.owned.0, record {
+  at = p.at;
+  cells = p.cells;
+  moves = p.moves;
+  children = p.children;
+  rest = p.rest;
+  owned = p.owned.1;
+  left = p.left;
+  are_cells = p.are_cells;
+  parent = p.parent;
+  same_count = p.same_count;
+  some = p.some;
+  few = p.few;
+  each = p.each;
+})

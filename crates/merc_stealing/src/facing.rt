@@ -14,6 +14,7 @@ use crate::board::StealingBoard;
 use crate::branch::{Held, Hold};
 use crate::children::Children;
 use crate::named::{NamedSignal, NamedWait};
+use crate::preparing::prepare;
 use crate::rights::{take_signal, take_wait};
 use crate::seat::{Room, Seat};
 use merc_base::NoMemory;
@@ -120,20 +121,22 @@ impl<M: Load + Send + Sync, N: Room + Send + Sync> Board<M> for StealingBoard<M,
     fn prepare<R: Wait>(
         &self,
         _rt: &R,
-        _alloc: Global,
-        _seat: &mut Seat<N>,
-        _loads: Vec<M>,
+        alloc: Global,
+        seat: &mut Seat<N>,
+        loads: Vec<M>,
         parent: Held<M>,
-        _limit: u64,
-        _shared: &[SharedCell],
-        _given: &[Handover],
+        limit: u64,
+        shared: &[SharedCell],
+        given: &[Handover],
     ) -> Result<Children<N>, (Held<M>, NoMemory)>
-        requires { Prepares (OwnOf M.root N.table self.now.thieves.items _seat.old.passes.items parent.value.hold) M.forked M.stands parent.value.load (rights_of parent.value.hold) _shared.now _given.now _limit _loads.items }
-        ensures ok { IfOk result (λ _. ArePasses self.now.thieves.items _seat.new.passes.items) }
-        ensures err { IfErr result (λ back. RunsOf M.root N.table self.now.thieves.items _seat.new.passes.items back.0.value.hold) }
-        ensures count { KeepsCount {S = _} (λ _ _. Unit {0}) (λ _. Unit {0}) _seat.old _seat.new }
+        requires { Prepares (OwnOf M.root N.table self.now.thieves.items seat.old.passes.items parent.value.hold) M.forked M.stands parent.value.load (rights_of parent.value.hold) shared.now given.now limit loads.items }
+        ensures ok { IfOk result (λ _. ArePasses self.now.thieves.items seat.new.passes.items) }
+        ensures err { IfErr result (λ back. RunsOf M.root N.table self.now.thieves.items seat.new.passes.items back.0.value.hold) }
+        ensures count { KeepsCount {S = _} (λ _ _. Unit {0}) (λ _. Unit {0}) seat.old seat.new }
     {
-        Err((parent, NoMemory))
+        prepare(
+            alloc, &self.lot, seat, loads, parent, limit, shared, given,
+        )
     }
 
     fn fork<R: Wait>(&self, _rt: &R, seat: &mut Seat<N>, children: Children<N>) -> Held<M> {

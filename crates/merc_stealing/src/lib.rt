@@ -16,6 +16,7 @@ pub mod moving;
 pub mod named;
 pub mod opening;
 pub mod placing;
+pub mod preparing;
 pub mod rights;
 pub mod seat;
 pub mod sharing;
