@@ -26,6 +26,7 @@ use Rattle.merc_stealing.specs.Owning.{HasBerth, Runs, Own, spot_held}
 use Rattle.merc_stealing.specs.Kids.{IsKid, AreFor, HaveBerths, Joins, with_waits, with_signals}
 use Rattle.merc_stealing.specs.Sharing.{cells_of, cells_ahead, own_rights}
 use Rattle.merc_stealing.proofs.Dealing.{lands}
+use Rattle.merc_stealing.proofs.Lists.{got_or}
 
 cells_there : (root : Script) (o : Spot) (at : Place) (limit : ℕ) (cells : List Cell) (moves : List Move) (children : Children) (rest : Script) → Reaches root o at → left_of at ≡ Some (ForkThen limit cells moves children rest)
     → cells_ahead root o ≡ numbers_of cells
@@ -83,3 +84,8 @@ module _ {L : Type 0} (root : Script) (stands awaits forked : L → Rights → P
         );
         berths = berths;
       }
+
+-- the children of a fork have rights to cells of this yard
+pub all_named : {L : Type 0} (root : Script) (stands awaits forked : L → Rights → Place → Type 0) (shows : ℕ → BlockData → Type 0) (table : TableId) (kids : List (Box (Branch L (Hold L)) Global)) (parent : Branch L (Hold L))
+    → Joins root stands awaits forked shows table kids parent → All (λ kid. AreNamed table kid.value.hold) kids
+all_named root stands awaits forked shows table kids parent j k d near = (j.each k _ (got_or kids k d near)).0.named

@@ -1,5 +1,5 @@
 //! How a fork is made.
-ghost use Rattle.std.specs.Prelude.{◌≡◌, ◌+◌, ◌*◌, ◌≤◌, [], length, All, IfSome, IfOk, IfErr};
+ghost use Rattle.std.specs.Prelude.{◌≡◌, ◌+◌, ◌*◌, ◌≤◌, List, [], length, All, IfSome, IfOk, IfErr};
 ghost use Rattle.std.specs.Vec.{vec_capacity};
 ghost use Rattle.merc_cell.specs.Ends.{consumer_name, producer_name};
 ghost use Rattle.merc_yard.specs.Yards.{yard_table};
@@ -22,7 +22,7 @@ use crate::placing::deal;
 use crate::seat::{Room, Seat, Spark};
 use crate::types::Bed;
 use merc_base::NoMemory;
-use merc_board::{Handover, Load, SharedCell};
+use merc_board::{Branch, Handover, Load, SharedCell};
 use merc_join::new_join;
 use std::alloc::Global;
 use std::marker::PhantomData;
@@ -76,6 +76,28 @@ fn make_fork<M: Load, N: Room>(
     }
 }
 
+// The parent's rights move into the children, or stay behind those to the fork's own cells.
+fn hand_over<M: Load, N: Room>(
+    parent: &mut Branch<M, Hold<M>>,
+    made: Made<M>,
+    limit: u64,
+    _shared: &[SharedCell],
+    given: &[Handover],
+) -> Vec<Held<M>>
+    requires { (loads : List M) × IsMade M.root N.table parent.old.hold _shared.now loads made × Prepares (Own M.root N.table parent.old.hold) M.forked M.stands parent.old.load (rights parent.old.hold) _shared.now given.now limit loads }
+    ensures count { length result.items ≡ length made.kids.items }
+    ensures joins { Joins M.root M.stands M.awaits M.forked M.shows N.table result.items parent.new }
+{
+    let Made {
+        mut kids,
+        behind,
+        kept,
+    } = made;
+    hand_out::<M, N>(&mut kids, &mut parent.hold, behind, kept, given);
+    parent.hold.limit = limit;
+    kids
+}
+
 // Rights to wait go back to the parent. There is room for them: they came from it, or are to the fork's own cells.
 fn take_waits<M: Load, N: Room>(from: &mut Vec<HeldWait<M>>, to: &mut Vec<HeldWait<M>>)
     requires { All (λ right. IsNamed N.table (consumer_name right.end)) from.old.items × All (λ right. IsNamed N.table (consumer_name right.end)) to.old.items }
@@ -100,6 +122,16 @@ fn take_signals<M: Load, N: Room>(from: &mut Vec<HeldSignal<M>>, to: &mut Vec<He
     }
 }
 
+// A branch's rights go to the parent.
+fn take_rights<M: Load, N: Room>(from: &mut Hold<M>, to: &mut Hold<M>)
+    requires from { AreNamed N.table from.old }
+    requires to { Runs M.root N.table to.old }
+    ensures { Runs M.root N.table to.new }
+{
+    take_waits::<M, N>(&mut from.waits, &mut to.waits);
+    take_signals::<M, N>(&mut from.signals, &mut to.signals);
+}
+
 // The children are dropped. The parent takes their rights, and the seat keeps their berths.
 fn take_back<M: Load, N: Room>(
     lot: &Lot<M>,
@@ -114,11 +146,10 @@ fn take_back<M: Load, N: Room>(
     ensures runs { Runs M.root N.table parent.new }
 {
     while let Some(mut kid) = kids.pop() {
-        take_waits::<M, N>(&mut kid.hold.waits, &mut parent.waits);
-        take_signals::<M, N>(&mut kid.hold.signals, &mut parent.signals);
         if let Some(berth) = kid.hold.berth.take() {
             keep_berth(lot, seat, berth);
         }
+        take_rights::<M, N>(&mut kid.hold, parent);
     }
 }
 
@@ -180,13 +211,7 @@ pub(crate) fn prepare<M: Load, N: Room>(
     };
     match make_fork(alloc, lot, seat, loads, &parent.hold, shared) {
         Ok(made) => {
-            let Made {
-                mut kids,
-                behind,
-                kept,
-            } = made;
-            hand_out::<M, N>(&mut kids, &mut parent.hold, behind, kept, given);
-            parent.hold.limit = limit;
+            let kids = hand_over::<M, N>(&mut parent, made, limit, shared, given);
             join_kids(alloc, lot, seat, kids, parent, sparks)
         }
         Err(refused) => Err((parent, refused)),
