@@ -158,5 +158,5 @@ pub for-one : {L : Type 0} (load : L) (has : ℕ → Rights) → AreFor {L = L} 
 for-one load has are = absurd (let count = are.count in omega (arith, count))
 
 -- the root has no place in a join, and a child has one
-pub root-placed : (is_none {A = ℕ} None ≡ true) × (is_none (Some 3) ≡ false)
+pub root-placed : (is_none {A = ℕ} None ≡ true) × (is_none {A = ℕ} (Some 3) ≡ false)
 root-placed = (refl, refl)
