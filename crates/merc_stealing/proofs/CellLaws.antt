@@ -1,5 +1,5 @@
 -- The rights to a fork's own cells, one cell after the other.
-use Rattle.std.proofs.Common.{◌≡◌, ◌≢◌, ◌<◌, ◌≤◌, ◌⊎◌, inl, ℕ, zero, suc, ◌+◌, ◌*◌, ◌-◌, Bool, true, false, eqb, eq-eqb, ne_eqb, List, [], ◌∷◌, ◌++◌, length, take, get_or, min, refl, sym, ap, ◌∙◌, subst, arith}
+use Rattle.std.proofs.Common.{◌≡◌, ◌≢◌, ◌<◌, ◌≤◌, inl, ℕ, zero, suc, ◌+◌, ◌*◌, ◌-◌, eq-eqb, ne_eqb, List, [], ◌∷◌, ◌++◌, length, take, get_or, min, refl, sym, ap, ◌∙◌, subst, arith}
 use Rattle.std.specs.Prelude.{if◌then◌else◌, ◌==◌}
 use Rattle.std.specs.declared.boxed.Box.{Box}
 use Rattle.std.specs.declared.alloc.Global.{Global}
@@ -9,7 +9,7 @@ use native.Mathlib.Decide.{ℕ_discrete}
 use Rattle.atomic_table.specs.Seated.{TableId}
 use Rattle.merc_board.specs.declared.branch.Branch.{Branch}
 use Rattle.merc_board.specs.declared.fork.SharedCell.{SharedCell}
-use Rattle.merc_board.specs.Rights.{Due, Owed, Rights, no_rights, own_waits, own_signals}
+use Rattle.merc_board.specs.Rights.{Due, Owed, Rights, own_waits, own_signals}
 use Rattle.merc_stealing.specs.declared.branch.Hold.{Hold}
 use Rattle.merc_stealing.specs.Beds.{cell_name, cell_named, IsNamed}
 use Rattle.merc_stealing.specs.Kids.{AreFor, with_wait, with_signal}

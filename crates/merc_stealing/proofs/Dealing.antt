@@ -1,6 +1,6 @@
 -- Children and tickets from the back, and where a parent parks.
-use Rattle.std.proofs.Common.{◌≡◌, ℕ, zero, suc, ◌+◌, ◌≤◌, ◌<◌, List, [], ◌∷◌, ◌++◌, length, refl, sym, ap, ◌∙◌, subst, arith, ⊎_elim, ◌⊎◌, inl, inr}
-use Rattle.std.specs.Prelude.{Option, Some, None, slice_get}
+use Rattle.std.proofs.Common.{◌≡◌, ℕ, suc, ◌+◌, List, [], ◌∷◌, ◌++◌, length, sym, ap, ◌∙◌, subst, arith, ⊎_elim}
+use Rattle.std.specs.Prelude.{Some, slice_get}
 use Rattle.std.proofs.lemmas.List.{length-append}
 use Rattle.std.specs.declared.boxed.Box.{Box}
 use Rattle.std.specs.declared.alloc.Global.{Global}
@@ -9,9 +9,8 @@ use Rattle.merc_value.specs.Block.{BlockData}
 use Rattle.merc_script.specs.Script.{Script, ForkThen, Children, Cell, Move}
 use Rattle.merc_script.specs.Places.{Place, left_of}
 use Rattle.merc_join.specs.declared.ends.Ticket.{Ticket}
-use Rattle.merc_join.specs.Tickets.{ticket_parent, ticket_child, ticket_children, AreDealt, AreTickets}
+use Rattle.merc_join.specs.Tickets.{ticket_parent, ticket_child, ticket_children, AreTickets}
 use Rattle.merc_yard.specs.declared.spot.Spot.{Spot}
-use Rattle.merc_yard.specs.declared.berth.Berth.{Berth}
 use Rattle.merc_yard.specs.declared.spot.Fill.TheVariants.{Filled}
 use Rattle.merc_yard.specs.declared.spot.Purpose.TheVariants.{Forks}
 use Rattle.merc_yard.specs.Berths.{spot_of}

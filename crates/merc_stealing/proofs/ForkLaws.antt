@@ -1,6 +1,6 @@
 -- A parent at a fork whose children were made and given their rights.
-use Rattle.std.proofs.Common.{◌≡◌, ◌≤◌, ℕ, zero, suc, ◌+◌, List, [], ◌∷◌, length, map, refl, sym, ap, ◌∙◌, subst, arith}
-use Rattle.std.specs.Prelude.{Option, Some, None, slice_get}
+use Rattle.std.proofs.Common.{◌≡◌, ℕ, suc, List, length, sym, ap, ◌∙◌, subst, arith}
+use Rattle.std.specs.Prelude.{Option, Some}
 use Rattle.std.proofs.lemmas.List.{length-map}
 use Rattle.std.specs.List.{All}
 use Rattle.std.specs.declared.boxed.Box.{Box}
@@ -22,8 +22,8 @@ use Rattle.merc_stealing.specs.declared.types.Bed.{Bed}
 use Rattle.merc_stealing.specs.declared.branch.Hold.{Hold}
 use Rattle.merc_stealing.specs.Spots.{place, fork_count, Reaches}
 use Rattle.merc_stealing.specs.Lying.{AreNamed, Placed, rights}
-use Rattle.merc_stealing.specs.Owning.{HasBerth, Runs, Own, spot_held}
-use Rattle.merc_stealing.specs.Kids.{IsKid, AreFor, HaveBerths, Joins, with_waits, with_signals}
+use Rattle.merc_stealing.specs.Owning.{HasBerth, Own, spot_held}
+use Rattle.merc_stealing.specs.Kids.{AreFor, HaveBerths, Joins, with_waits, with_signals}
 use Rattle.merc_stealing.specs.Sharing.{cells_of, cells_ahead, own_rights}
 use Rattle.merc_stealing.proofs.Dealing.{lands}
 use Rattle.merc_stealing.proofs.Lists.{got_or}

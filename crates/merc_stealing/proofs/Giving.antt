@@ -1,6 +1,6 @@
 -- One right more for a child.
-use Rattle.std.proofs.Common.{◌≡◌, ◌≢◌, ◌⊎◌, inl, inr, ℕ, zero, suc, ◌+◌, ◌-◌, ◌<◌, ◌≤◌, Bool, true, false, eqb, eq-eqb, ne_eqb, List, [], ◌∷◌, ◌++◌, map, length, length-set, refl, sym, ap, ◌∙◌, subst, ⊎_elim, arith}
-use Rattle.std.specs.Prelude.{Option, Some, None, slice_get, slice_set, slice_index_or, if◌then◌else◌, ◌==◌}
+use Rattle.std.proofs.Common.{◌≡◌, ◌≢◌, ◌⊎◌, inl, inr, ℕ, zero, suc, ◌+◌, ◌-◌, ◌<◌, ◌≤◌, eq-eqb, ne_eqb, List, [], ◌∷◌, ◌++◌, map, length, length-set, refl, sym, ap, ◌∙◌, subst, ⊎_elim, arith}
+use Rattle.std.specs.Prelude.{Some, slice_get, slice_set, slice_index_or, if◌then◌else◌, ◌==◌}
 use Rattle.std.proofs.lemmas.List.{length-append, map-append}
 use Rattle.std.specs.List.{All}
 use Rattle.std.specs.Vec.{vec_capacity}
@@ -9,14 +9,14 @@ use Rattle.std.specs.declared.alloc.Global.{Global}
 use Rattle.atomic_table.specs.Seated.{TableId}
 use Rattle.merc_cell.specs.Ends.{consumer_name, producer_name}
 use Rattle.merc_board.specs.declared.branch.Branch.{Branch}
-use Rattle.merc_board.specs.Rights.{Due, Owed, Rights}
+use Rattle.merc_board.specs.Rights.{Rights}
 use Rattle.merc_stealing.specs.declared.branch.HeldWait.{HeldWait}
 use Rattle.merc_stealing.specs.declared.branch.HeldSignal.{HeldSignal}
 use Rattle.merc_stealing.specs.declared.branch.Hold.{Hold}
 use Rattle.merc_stealing.specs.Beds.{IsNamed}
-use Rattle.merc_stealing.specs.Lying.{due_of, owed_of, rights}
+use Rattle.merc_stealing.specs.Lying.{due_of, owed_of}
 use Rattle.merc_stealing.specs.Owning.{HasBerth}
-use Rattle.merc_stealing.specs.Kids.{IsKid, HasRoom, IsFor, AreFor, GotWait, GotSignal, with_wait, with_signal}
+use Rattle.merc_stealing.specs.Kids.{IsFor, AreFor, GotWait, GotSignal, with_wait, with_signal}
 use Rattle.merc_stealing.proofs.Lists.{all_more}
 
 set_cases : {A : Type 0} (l : List A) (i j : ℕ) (x y : A) → slice_get (slice_set l i x) j ≡ Some y → ((j ≡ i) × (x ≡ y)) ⊎ ((j ≢ i) × (slice_get l j ≡ Some y))

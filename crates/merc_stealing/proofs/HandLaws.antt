@@ -1,5 +1,5 @@
 -- What workers ask of a board, as the stealing board asks it.
-use Rattle.std.proofs.Common.{◌≡◌, Bool, true, false, ℕ, zero, suc, List, [], refl, sym, ap, ◌∙◌, subst}
+use Rattle.std.proofs.Common.{◌≡◌, Bool, true, false, ℕ, List, [], refl, sym, ap, ◌∙◌, subst}
 use Rattle.std.specs.Prelude.{Option, Some, None}
 use Rattle.std.specs.declared.alloc.Global.{Global}
 use Rattle.merc_script.specs.declared.outcome.Outcome.{Outcome}
@@ -101,18 +101,21 @@ may_go_on false = tt
 -- what is asked of a fork
 pub prepares : {L T : Type 0} (root : Script) (table : TableId) (thieves : List (Thief T)) (passes : List (Pass T (Known T) Global)) (hold : Hold L) (forked stands : L → Rights → Place → Type 0) (load : L) (rights : Rights) (shared : List SharedCell)
     (given : List Handover) (limit : ℕ) (loads : List L) → Prepares (OwnOf root table thieves passes hold) forked stands load rights shared given limit loads → ArePasses thieves passes × Prepares (Own root table hold) forked stands load rights shared given limit loads
-prepares root table thieves passes hold forked stands load rights shared given limit loads p = (p.owned.0, record {
-  at = p.at;
-  cells = p.cells;
-  moves = p.moves;
-  children = p.children;
-  rest = p.rest;
-  owned = p.owned.1;
-  left = p.left;
-  are_cells = p.are_cells;
-  parent = p.parent;
-  same_count = p.same_count;
-  some = p.some;
-  few = p.few;
-  each = p.each;
-})
+prepares root table thieves passes hold forked stands load rights shared given limit loads p = (
+  p.owned.0,
+  record {
+    at = p.at;
+    cells = p.cells;
+    moves = p.moves;
+    children = p.children;
+    rest = p.rest;
+    owned = p.owned.1;
+    left = p.left;
+    are_cells = p.are_cells;
+    parent = p.parent;
+    same_count = p.same_count;
+    some = p.some;
+    few = p.few;
+    each = p.each;
+  },
+)

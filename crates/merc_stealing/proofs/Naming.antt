@@ -1,12 +1,12 @@
 -- Names and ends of scripts.
-use Rattle.std.proofs.Common.{◌≡◌, ℕ, zero, suc, ◌+◌, List, [], ◌∷◌, ◌++◌, refl, sym, ap, ◌∙◌, subst, arith}
+use Rattle.std.proofs.Common.{◌≡◌, ℕ, zero, suc, List, refl, sym, ap, ◌∙◌, subst}
 use Rattle.std.specs.Prelude.{Option, Some, None}
 use Rattle.merc_value.specs.Block.{BlockData}
 use Rattle.merc_script.specs.declared.outcome.Outcome.{Outcome}
 use Rattle.merc_script.specs.Script.{Script, Ends, TickThen, WaitThen, SignalThen, ForkThen, end_of}
 use Rattle.merc_script.specs.Places.{Place, Name, left_of, left_in, left_behind, script_named}
 use Rattle.merc_yard.specs.declared.spot.Spot.{Spot}
-use Rattle.merc_stealing.specs.Spots.{place, Reaches, behind, after, after_as}
+use Rattle.merc_stealing.specs.Spots.{place, Reaches, behind, after_as}
 use Rattle.merc_script.specs.declared.outcome.Outcome.TheVariants.{Ok as Fine, Raise, Limit, Starved, NoMemory}
 use Rattle.atomic_table.specs.Seated.{TableId}
 use Rattle.merc_join.specs.declared.ends.Ticket.{Ticket}
@@ -27,7 +27,7 @@ use Rattle.merc_yard.specs.declared.spot.Fill.TheVariants.{Filled}
 use Rattle.merc_yard.specs.declared.spot.Purpose.TheVariants.{Forks}
 use Rattle.merc_stealing.specs.Beds.{IsMoored}
 use Rattle.merc_stealing.specs.Owning.{Own, Runs, MayEnd, spot_held, HasBerth, Unmoored}
-use Rattle.merc_stealing.specs.Parents.{AreEnds, IsParent, IsJoin, HoldsAt}
+use Rattle.merc_stealing.specs.Parents.{AreEnds, IsParent, IsJoin}
 
 end_behind : (n : ℕ) (s : Script) (o : Outcome) → left_behind n s ≡ Some (Ends o) → end_of s ≡ o
 end_behind zero s o e = let is : s ≡ Ends o = cc (e) in ap end_of is

@@ -1,5 +1,5 @@
 -- The right that stands at the place that is found is the one that is used, and the others stay in order.
-use Rattle.std.proofs.Common.{◌≡◌, ℕ, zero, suc, ◌+◌, ◌<◌, ◌≤◌, Bool, true, false, List, [], ◌∷◌, ◌++◌, map, length, take, drop, refl, sym, ap, ◌∙◌, subst, arith}
+use Rattle.std.proofs.Common.{◌≡◌, ℕ, zero, suc, ◌+◌, ◌<◌, ◌≤◌, Bool, true, false, List, [], ◌∷◌, map, length, drop, refl, sym, ap, ◌∙◌, subst, arith}
 use Rattle.std.specs.Prelude.{Option, Some, None, slice_get, slice_index_or, if◌then◌else◌, ◌==◌, not}
 use Rattle.std.specs.List.{All, remove}
 use Rattle.merc_board.specs.Rights.{Due, Owed, wait_for, signal_for, passed_over, sooner_of, is_sooner}

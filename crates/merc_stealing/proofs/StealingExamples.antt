@@ -1,23 +1,22 @@
 -- What the definitions of a stealing board say.
-use Rattle.std.proofs.Common.{◌≡◌, ℕ, true, false, List, [], ◌∷◌, refl, sym, ap, ◌∙◌, arith}
-use Rattle.std.specs.Prelude.{Option, Some, None, if◌then◌else◌, ◌==◌}
+use Rattle.std.proofs.Common.{◌≡◌, ℕ, true, false, List, [], ◌∷◌, refl, ap, arith}
+use Rattle.std.specs.Prelude.{Some, None, if◌then◌else◌, ◌==◌}
 use Rattle.atomic_table.specs.Seated.{TableId}
 use Rattle.merc_value.specs.Block.{BlockData}
 use Rattle.merc_script.specs.declared.outcome.Outcome.TheVariants.{Ok as Fine, Raise, Limit, Starved, NoMemory}
 use Rattle.merc_script.specs.Script.{Script, Ends, TickThen, WaitThen, SignalThen, ForkThen, Child, NoChild}
 use Rattle.merc_yard.specs.declared.spot.Spot.{Spot}
-use Rattle.merc_yard.specs.declared.spot.Fill.TheVariants.{Vacant, Filled}
+use Rattle.merc_yard.specs.declared.spot.Fill.TheVariants.{Filled}
 use Rattle.merc_yard.specs.declared.spot.Purpose.TheVariants.{Ready, Waits, Forks}
 use Rattle.merc_yard.specs.declared.berth.Berth.{Berth}
 use Rattle.merc_yard.specs.Slots.{spot, label, no_table}
-use Rattle.merc_board.specs.declared.branch.Woken.TheVariants.{No, Value, Starved as WokenStarved}
+use Rattle.merc_board.specs.declared.branch.Woken.TheVariants.{No, Value}
 use Rattle.merc_stealing.specs.Spots.{place, parked, parked_for, after, child_spot, Reaches, fork_count}
 use Rattle.merc_stealing.specs.Beds.{cell_name, IsNamed, IsMoored, EndsAs}
 use Rattle.merc_stealing.specs.Lying.{MayWake}
 use Rattle.merc_stealing.specs.Parents.{Near}
 use Rattle.merc_stealing.specs.Memory.{has_memory}
 use Rattle.merc_stealing.specs.declared.branch.HeldWait.{HeldWait}
-use Rattle.merc_stealing.specs.declared.branch.HeldSignal.{HeldSignal}
 use Rattle.merc_stealing.specs.Picking.{lifted, later, wait_place}
 use Rattle.merc_stealing.specs.Kids.{with_wait, with_waits, AreFor}
 use Rattle.merc_stealing.specs.Sharing.{cells_ahead, number_at, own_rights}
@@ -158,5 +157,5 @@ pub for-one : {L : Type 0} (load : L) (has : ℕ → Rights) → AreFor {L = L} 
 for-one load has are = absurd (let count = are.count in omega (arith, count))
 
 -- the root has no place in a join, and a child has one
-pub root-placed : (is_none {A = ℕ} None ≡ true) × (is_none (Some 3) ≡ false)
+pub root-placed : (is_none {A = ℕ} None ≡ true) × (is_none {A = ℕ} (Some 3) ≡ false)
 root-placed = (refl, refl)

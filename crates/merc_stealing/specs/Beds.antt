@@ -1,16 +1,16 @@
 -- What goes through cells and joins.
-use Rattle.std.specs.Prelude.{◌≡◌, ℕ, suc, ◌+◌, ◌<◌, List, [], ◌∷◌, ◌++◌, Option, Some, None}
+use Rattle.std.specs.Prelude.{◌≡◌, ℕ, suc, List, [], ◌∷◌, ◌++◌, Some}
 use Rattle.merc_value.specs.Block.{BlockData}
 use Rattle.merc_script.specs.declared.outcome.Outcome.{Outcome}
 use Rattle.merc_script.specs.declared.outcome.Outcome.TheVariants.{Ok as Fine, Raise, Limit, Starved, NoMemory}
 use Rattle.merc_script.specs.Script.{Script, WaitThen, end_of}
-use Rattle.merc_script.specs.Places.{Place, Name, left_of, script_named}
+use Rattle.merc_script.specs.Places.{Name, left_of, script_named}
 use Rattle.atomic_table.specs.Seated.{TableId}
 use Rattle.merc_yard.specs.declared.berth.Berth.{Berth}
 use Rattle.merc_yard.specs.declared.spot.Fill.{Fill}
-use Rattle.merc_yard.specs.declared.spot.Fill.TheVariants.{Vacant, Filled}
+use Rattle.merc_yard.specs.declared.spot.Fill.TheVariants.{Filled}
 use Rattle.merc_yard.specs.declared.spot.Purpose.{Purpose}
-use Rattle.merc_yard.specs.declared.spot.Purpose.TheVariants.{Ready, Waits, Forks, Free}
+use Rattle.merc_yard.specs.declared.spot.Purpose.TheVariants.{Waits}
 use Rattle.merc_yard.specs.Berths.{IsBerth, spot_of}
 use Rattle.merc_yard.specs.Slots.{no_table}
 use Rattle.merc_stealing.specs.Spots.{place}

@@ -1,20 +1,19 @@
 -- What lies in a berth.
-use Rattle.std.specs.Prelude.{◌≡◌, ℕ, suc, ◌+◌, ◌<◌, List, [], ◌∷◌, ◌++◌, map, Option, Some, None}
+use Rattle.std.specs.Prelude.{◌≡◌, ℕ, List, [], map, Option, Some, None}
 use Rattle.std.specs.List.{All}
 use Rattle.merc_value.specs.Block.{BlockData}
 use Rattle.merc_script.specs.Script.{Script, WaitThen, ForkThen, Children, Cell, Move}
-use Rattle.merc_script.specs.Places.{Place, Name, left_of, script_named}
+use Rattle.merc_script.specs.Places.{Place, left_of}
 use Rattle.atomic_table.specs.Seated.{TableId}
 use Rattle.merc_cell.specs.Ends.{consumer_name, producer_name}
 use Rattle.merc_join.specs.declared.ends.Ticket.{Ticket}
 use Rattle.merc_join.specs.Tickets.{ticket_parent, ticket_child, ticket_children}
 use Rattle.merc_yard.specs.declared.berth.Berth.{Berth}
 use Rattle.merc_yard.specs.declared.spot.Spot.{Spot}
-use Rattle.merc_yard.specs.declared.spot.Fill.TheVariants.{Vacant, Filled}
+use Rattle.merc_yard.specs.declared.spot.Fill.TheVariants.{Filled}
 use Rattle.merc_yard.specs.declared.spot.Purpose.{Purpose}
 use Rattle.merc_yard.specs.declared.spot.Purpose.TheVariants.{Ready, Waits, Forks, Free}
-use Rattle.merc_yard.specs.Berths.{IsBerth, spot_of}
-use Rattle.merc_yard.specs.Slots.{nowhere}
+use Rattle.merc_yard.specs.Berths.{spot_of}
 use Rattle.merc_stealing.specs.declared.types.Bed.{Bed}
 use Rattle.merc_board.specs.declared.branch.Woken.{Woken}
 use Rattle.merc_board.specs.declared.branch.Woken.TheVariants.{No, Value, Starved}

@@ -3,7 +3,7 @@ use Rattle.std.specs.Prelude.{◌≡◌, ℕ, Option, Some, None}
 use Rattle.merc_value.specs.Block.{BlockData}
 use Rattle.merc_script.specs.declared.outcome.Outcome.{Outcome}
 use Rattle.merc_script.specs.declared.outcome.Outcome.TheVariants.{Ok as Fine, Raise, Limit, Starved, NoMemory}
-use Rattle.merc_script.specs.Script.{Script, Ends, WaitThen, ForkThen, Children, Cell, Move}
+use Rattle.merc_script.specs.Script.{Script, Ends}
 use Rattle.merc_script.specs.Places.{Place, left_of}
 use Rattle.atomic_table.specs.Seated.{TableId}
 use Rattle.merc_yard.specs.declared.berth.Berth.{Berth}

@@ -1,5 +1,5 @@
 -- The cells of a fork that are made for its children.
-use Rattle.std.specs.Prelude.{◌≡◌, ℕ, zero, suc, List, [], ◌∷◌, Option, Some, None}
+use Rattle.std.specs.Prelude.{ℕ, zero, suc, List, [], ◌∷◌, Option, Some, None}
 use Rattle.merc_script.specs.Script.{Script, Ends, TickThen, WaitThen, SignalThen, ForkThen}
 use Rattle.merc_script.specs.Places.{left_of}
 use Rattle.merc_yard.specs.declared.spot.Spot.{Spot}

@@ -1,7 +1,7 @@
 -- Spots and places.
-use Rattle.std.specs.Prelude.{◌≡◌, ℕ, zero, suc, ◌+◌, ◌<◌, List, [], ◌∷◌, ◌++◌, Option, Some, None}
-use Rattle.merc_script.specs.Script.{Script, Ends, TickThen, WaitThen, SignalThen, ForkThen, Children, end_of, count}
-use Rattle.merc_script.specs.Places.{Place, Name, left_of, script_named}
+use Rattle.std.specs.Prelude.{◌≡◌, ℕ, suc, ◌+◌, [], ◌∷◌, ◌++◌, Option, Some, None}
+use Rattle.merc_script.specs.Script.{Script, Ends, TickThen, WaitThen, SignalThen, ForkThen, count}
+use Rattle.merc_script.specs.Places.{Place, left_of}
 use Rattle.merc_yard.specs.declared.spot.Spot.{Spot}
 use Rattle.merc_yard.specs.declared.spot.Purpose.{Purpose}
 use Rattle.merc_yard.specs.declared.spot.Purpose.TheVariants.{Ready, Waits, Forks, Free}

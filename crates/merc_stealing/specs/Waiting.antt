@@ -1,5 +1,5 @@
 -- What a wait answers.
-use Rattle.std.specs.Prelude.{◌≡◌, ℕ}
+use Rattle.std.specs.Prelude.{ℕ}
 use Rattle.merc_value.specs.Block.{BlockData}
 use Rattle.merc_script.specs.Script.{Script}
 use Rattle.merc_script.specs.Places.{Place}

@@ -29,9 +29,13 @@ use std::sync::Wait;
 
 impl<M: Load + Send + Sync, N: Room + Send + Sync> Board<M> for StealingBoard<M, N> {
     type Hold = Hold<M>;
+
     type Seat = Seat<N>;
+
     type WaitRight = NamedWait<M, N>;
+
     type SignalRight = NamedSignal<M, N>;
+
     type Children = Children<N>;
 
     ghost closed = { λ board. board.thieves.items ≡ [] };
@@ -134,9 +138,7 @@ impl<M: Load + Send + Sync, N: Room + Send + Sync> Board<M> for StealingBoard<M,
         ensures err { IfErr result (λ back. RunsOf M.root N.table self.now.thieves.items seat.new.passes.items back.0.value.hold) }
         ensures count { KeepsCount {S = _} (λ _ _. Unit {0}) (λ _. Unit {0}) seat.old seat.new }
     {
-        prepare(
-            alloc, &self.lot, seat, loads, parent, limit, shared, given,
-        )
+        prepare(alloc, &self.lot, seat, loads, parent, limit, shared, given)
     }
 
     fn fork<R: Wait>(&self, _rt: &R, seat: &mut Seat<N>, children: Children<N>) -> Held<M> {
@@ -158,13 +160,7 @@ impl<M: Load + Send + Sync, N: Room + Send + Sync> Board<M> for StealingBoard<M,
         StealingBoard::wait(self, right, branch)
     }
 
-    fn signal<R: Wait>(
-        &self,
-        _rt: &R,
-        seat: &mut Seat<N>,
-        right: NamedSignal<M, N>,
-        value: Block,
-    ) {
+    fn signal<R: Wait>(&self, _rt: &R, seat: &mut Seat<N>, right: NamedSignal<M, N>, value: Block) {
         let NamedSignal { right, of: _ } = right;
         StealingBoard::signal(self, seat, right, value);
     }

@@ -1,4 +1,4 @@
-use Rattle.std.proofs.Common.{rules, ◌≡◌, ◌∙◌, ◌+◌, ◌++◌, ◌∷◌, [], sym, ap, map, refl}
+use Rattle.std.proofs.Common.{◌∙◌, ◌+◌, ◌++◌, ◌∷◌, [], sym, ap, map}
 use Rattle.std.proofs.lemmas.List.{map-append}
 use Rattle.merc_cell.specs.Ends.{consumer_name, producer_name}
 use Rattle.merc_stealing.specs.Beds.{IsNamed, cell_named}

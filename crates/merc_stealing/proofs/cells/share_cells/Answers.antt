@@ -1,4 +1,4 @@
-use Rattle.std.proofs.Common.{rules, arith, ◌≡◌, ◌∙◌, ◌+◌, ◌*◌, ◌-◌, sym, length, take}
+use Rattle.std.proofs.Common.{arith, ◌∙◌, ◌+◌, ◌*◌, ◌-◌, sym, length, take}
 use Rattle.merc_stealing.specs.Owning.{spot_held}
 use Rattle.merc_stealing.specs.Sharing.{cells_ahead, own_rights}
 use Rattle.merc_stealing.proofs.CellLaws.{as_many, one_less, number_of, shared_more, waits_more, all_shared}

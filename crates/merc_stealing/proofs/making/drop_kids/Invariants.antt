@@ -1,4 +1,4 @@
-use Rattle.std.proofs.Common.{◌≡◌, ℕ, length}
+use Rattle.std.proofs.Common.{◌≡◌, length}
 use Rattle.merc_stealing.specs.Kids.{HaveBerths}
 use Rattle.merc_stealing.proofs.making.drop_kids.Given as goal
 

@@ -1,4 +1,4 @@
-use Rattle.std.proofs.Common.{rules, arith, length, subst, sym, ap, ◌∙◌, ◌≡◌, ◌+◌, ◌++◌, [], ◌∷◌, refl}
+use Rattle.std.proofs.Common.{rules, subst, sym, ap, ◌∙◌, ◌≡◌, ◌++◌, [], refl}
 use Rattle.std.proofs.lemmas.List.{append_assoc, append-nil}
 use Rattle.merc_board.specs.Rights.{no_rights}
 use Rattle.merc_stealing.specs.Kids.{AreFor}

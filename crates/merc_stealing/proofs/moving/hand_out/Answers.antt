@@ -1,4 +1,4 @@
-use Rattle.std.proofs.Common.{rules, ◌≡◌, ◌∙◌, ◌+◌, ◌++◌, ap, map, length}
+use Rattle.std.proofs.Common.{◌∙◌, ◌+◌, ◌++◌, ap, map, length}
 use Rattle.merc_board.specs.Rights.{waits_kept, signals_kept}
 use Rattle.merc_stealing.specs.Lying.{due_of, owed_of}
 use Rattle.merc_stealing.specs.Kids.{with_waits}

@@ -1,4 +1,4 @@
-use Rattle.std.proofs.Common.{rules, ◌≡◌, ◌∙◌, ◌++◌, ◌∷◌, [], sym, ap, map}
+use Rattle.std.proofs.Common.{◌∙◌, ◌++◌, ◌∷◌, [], sym, ap}
 use Rattle.merc_cell.specs.Ends.{producer_name}
 use Rattle.merc_stealing.specs.Beds.{IsNamed}
 use Rattle.merc_stealing.specs.Kids.{with_signal, with_signals}

@@ -1,4 +1,4 @@
-use Rattle.std.proofs.Common.{rules, arith, ℕ, suc, length, subst, sym, ap, map, ◌∙◌, ◌≡◌, ◌+◌, ◌-◌, ◌++◌, [], ◌∷◌, refl}
+use Rattle.std.proofs.Common.{rules, arith, ℕ, length, subst, sym, ap, map, ◌∙◌, ◌≡◌, ◌+◌, ◌-◌, ◌++◌, [], ◌∷◌}
 use Rattle.std.proofs.lemmas.List.{append_assoc, append-nil, map-append}
 use Rattle.merc_cell.specs.Ends.{consumer_name}
 use Rattle.merc_board.specs.Rights.{waits_kept}

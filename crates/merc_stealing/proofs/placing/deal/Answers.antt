@@ -1,6 +1,4 @@
-use Rattle.std.proofs.Common.{rules, arith, length, subst, sym, ap, [], ◌∷◌}
-use Rattle.std.proofs.lemmas.List.{length-append}
-use Rattle.atomic_table.specs.Seated.{TableId}
+use Rattle.std.proofs.Common.{rules, arith, subst, sym}
 use Rattle.merc_yard.specs.declared.spot.Fill.TheVariants.{Filled}
 use Rattle.merc_yard.specs.declared.spot.Purpose.TheVariants.{Forks}
 use Rattle.merc_join.specs.Tickets.{ticket_parent, ticket_child}

@@ -1,4 +1,4 @@
-use Rattle.std.proofs.Common.{rules, ◌≡◌, ◌∙◌, ◌++◌, sym, refl}
+use Rattle.std.proofs.Common.{◌∙◌, ◌++◌, sym, refl}
 use Rattle.merc_board.specs.Rights.{waits_kept, signals_kept}
 use Rattle.merc_stealing.specs.Lying.{rights}
 use Rattle.merc_stealing.specs.Owning.{spot_held}

@@ -1,4 +1,4 @@
-use Rattle.std.proofs.Common.{◌≡◌, ℕ, length}
+use Rattle.std.proofs.Common.{◌≡◌, length}
 use Rattle.std.specs.List.{All}
 use Rattle.merc_stealing.specs.Lying.{AreNamed}
 use Rattle.merc_stealing.specs.Owning.{Runs}

@@ -1,4 +1,4 @@
-use Rattle.std.proofs.Common.{rules, arith, ◌≤◌, length}
+use Rattle.std.proofs.Common.{rules}
 use Rattle.merc_stealing.proofs.Picking.{consumer_read, consumer_none}
 use Rattle.merc_stealing.proofs.rights.consumer_of.Goals as goal
 

@@ -1,4 +1,4 @@
-use Rattle.std.proofs.Common.{rules, ◌≡◌, ◌∙◌, sym, ap, true, false}
+use Rattle.std.proofs.Common.{◌∙◌, sym, ap, true, false}
 use Rattle.merc_board.specs.Rights.{is_sooner}
 use Rattle.merc_stealing.proofs.Picking.{used_behind, used_of_two}
 use Rattle.merc_stealing.proofs.rights.sooner_place.Goals as goal

@@ -1,4 +1,4 @@
-use Rattle.std.proofs.Common.{rules, arith, ◌≡◌, ◌≤◌, ◌<◌, ◌⊎◌, inl, inr, ◌∙◌, ℕ, length}
+use Rattle.std.proofs.Common.{arith, ◌≡◌, inl, inr, ◌∙◌, length}
 use Rattle.merc_stealing.proofs.Giving.{has_room_signal, gives_signal_to, gives_none}
 use Rattle.merc_stealing.proofs.sharing.give_signal.Goals as goal
 

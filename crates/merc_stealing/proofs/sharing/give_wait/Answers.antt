@@ -1,4 +1,4 @@
-use Rattle.std.proofs.Common.{rules, arith, ◌≡◌, ◌≤◌, ◌<◌, ◌⊎◌, inl, inr, ◌∙◌, ℕ, length}
+use Rattle.std.proofs.Common.{arith, ◌≡◌, inl, inr, ◌∙◌, length}
 use Rattle.merc_stealing.proofs.Giving.{has_room_wait, gives_wait_to, gives_none}
 use Rattle.merc_stealing.proofs.sharing.give_wait.Goals as goal
 

@@ -1,4 +1,4 @@
-use Rattle.std.proofs.Common.{rules, subst, ap, ◌∙◌, ◌≡◌, true}
+use Rattle.std.proofs.Common.{subst, ap, ◌∙◌, ◌≡◌, true}
 use Rattle.merc_script.specs.Places.{left_of}
 use Rattle.merc_board.specs.Going.{next}
 use Rattle.merc_stealing.specs.Memory.{has_memory}
