@@ -1,0 +1,4 @@
+pub mod Dealing
+pub mod Facing
+pub mod BranchLaws
+pub mod DealingExamples
