@@ -1,1 +1,3 @@
 pub mod Faces
+pub mod Parts
+pub mod Finding
