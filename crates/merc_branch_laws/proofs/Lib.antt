@@ -1,3 +1,4 @@
 pub mod Faces
 pub mod Parts
 pub mod Finding
+pub mod Handing
