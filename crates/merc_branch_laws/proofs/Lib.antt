@@ -2,3 +2,4 @@ pub mod Faces
 pub mod Parts
 pub mod Finding
 pub mod Handing
+pub mod Renaming
