@@ -3,3 +3,4 @@ pub mod Parts
 pub mod Finding
 pub mod Handing
 pub mod Renaming
+pub mod Looking
