@@ -4,3 +4,4 @@ pub mod Finding
 pub mod Handing
 pub mod Renaming
 pub mod Looking
+pub mod Siting
