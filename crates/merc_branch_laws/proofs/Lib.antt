@@ -5,3 +5,5 @@ pub mod Handing
 pub mod Renaming
 pub mod Looking
 pub mod Siting
+pub mod Holding
+pub mod LookingNodes

@@ -99,7 +99,7 @@ abbrev pub Covers : (A : Type 0) → Bool → List A → List A → Type 0
 Covers A true left held = Part A left held
 Covers A false left held = held ≡ []
 
-covers_less : {A : Type 0} (frame : Bool) (fewer left held : List A) → Part A fewer left → Covers A frame left held → Covers A frame fewer held
+pub covers_less : {A : Type 0} (frame : Bool) (fewer left held : List A) → Part A fewer left → Covers A frame left held → Covers A frame fewer held
 covers_less true fewer left held p q = part_both fewer left held p q
 covers_less false fewer left held p q = q
 
