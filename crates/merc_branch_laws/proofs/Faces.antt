@@ -95,14 +95,14 @@ module _ (plan : Plan) (values : ℕ → Option Value) (info : SiteInfo) (number
   child_faced : (child : ℕ) (forked : Courses RunEnd) (children : Children) → DealAll plan values info numbers rights left child forked children
       → (number : ℕ) (course : RunCourse) → course_at number forked ≡ Some course → Begins (child + number) course (child_at (suc number) children)
   child_faced child forked children (deal_none _ _ _ _ _) number course e = absurd (cc (e))
-  child_faced child forked children (deal_more _ _ _ _ _ one courses first others deals more) zero course e =
+  child_faced child forked children (deal_more _ _ _ _ _ one further first others deals more) zero course e =
       (first, refl, subst (λ (c : RunCourse). Deals plan values (child_rights (shared_of info) (handovers_of info) numbers rights (child + 0)) left 0 c first) (some_same one course e)
       (subst (λ (k : ℕ). Deals plan values (child_rights (shared_of info) (handovers_of info) numbers rights k) left 0 one first) (none_more child) deals))
     where
       none_more : (n : ℕ) → n ≡ n + 0
       none_more n = omega arith
-  child_faced child forked children (deal_more _ _ _ _ _ one courses first others deals more) (suc number) course e =
-      subst (λ (k : ℕ). Begins k course (child_at (suc number) others)) (one_more child number) (child_faced (suc child) courses others more number course e)
+  child_faced child forked children (deal_more _ _ _ _ _ one further first others deals more) (suc number) course e =
+      subst (λ (k : ℕ). Begins k course (child_at (suc number) others)) (one_more child number) (child_faced (suc child) further others more number course e)
     where
       one_more : (m n : ℕ) → suc m + n ≡ m + suc n
       one_more m n = omega arith
@@ -138,6 +138,6 @@ mutual
   all-stand : (plan : Plan) (values : ℕ → Option Value) (info : SiteInfo) (numbers : List ℕ) (rights : Rights) (left child : ℕ) (forked : Courses RunEnd) (children : Children)
       → DealAll plan values info numbers rights left child forked children → StandAll values forked children
   all-stand plan values info numbers rights left child forked children (deal_none _ _ _ _ _) = stand_none
-  all-stand plan values info numbers rights left child forked children (deal_more _ _ _ _ _ one courses first others deals more) =
-      stand_more one courses first others (deals-stand plan values (child_rights (shared_of info) (handovers_of info) numbers rights child) left 0 one first deals)
-      (all-stand plan values info numbers rights left (suc child) courses others more)
+  all-stand plan values info numbers rights left child forked children (deal_more _ _ _ _ _ one further first others deals more) =
+      stand_more one further first others (deals-stand plan values (child_rights (shared_of info) (handovers_of info) numbers rights child) left 0 one first deals)
+      (all-stand plan values info numbers rights left (suc child) further others more)

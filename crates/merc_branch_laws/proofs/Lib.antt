@@ -7,3 +7,5 @@ pub mod Looking
 pub mod Siting
 pub mod Holding
 pub mod LookingNodes
+pub mod Keeping
+pub mod DealingAt
