@@ -9,3 +9,4 @@ pub mod Holding
 pub mod LookingNodes
 pub mod Keeping
 pub mod DealingAt
+pub mod Accepted
