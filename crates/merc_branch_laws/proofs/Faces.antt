@@ -95,9 +95,12 @@ module _ (plan : Plan) (values : ℕ → Option Value) (info : SiteInfo) (number
   child_faced : (child : ℕ) (forked : Courses RunEnd) (children : Children) → DealAll plan values info numbers rights left child forked children
       → (number : ℕ) (course : RunCourse) → course_at number forked ≡ Some course → Begins (child + number) course (child_at (suc number) children)
   child_faced child forked children (deal_none _ _ _ _ _) number course e = absurd (cc (e))
-  child_faced child forked children (deal_more _ _ _ _ _ one further first others deals more) zero course e =
-      (first, refl, subst (λ (c : RunCourse). Deals plan values (child_rights (shared_of info) (handovers_of info) numbers rights (child + 0)) left 0 c first) (some_same one course e)
-      (subst (λ (k : ℕ). Deals plan values (child_rights (shared_of info) (handovers_of info) numbers rights k) left 0 one first) (none_more child) deals))
+  child_faced child forked children (deal_more _ _ _ _ _ one further first others deals more) zero course e = (
+    first,
+    refl,
+    subst (λ (c : RunCourse). Deals plan values (child_rights (shared_of info) (handovers_of info) numbers rights (child + 0)) left 0 c first) (some_same one course e)
+        (subst (λ (k : ℕ). Deals plan values (child_rights (shared_of info) (handovers_of info) numbers rights k) left 0 one first) (none_more child) deals),
+  )
     where
       none_more : (n : ℕ) → n ≡ n + 0
       none_more n = omega arith

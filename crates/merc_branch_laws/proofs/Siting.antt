@@ -161,8 +161,7 @@ module _ (plan : Plan) where
         let second = placed (site + forks condition) later (used_in then_part inner) (bound_in then_part s) then_part in
         let third = placed (site + forks condition + forks then_part) later (used_in else_part inner) (bound_in else_part s) else_part in
         let free_inner : IsFree inside inner s = free_those_first inside w s (λ variable. not (in_node condition variable)) free in
-        around_sited inside (used_in condition w) [] (node (Conditional first (ahead_of second (passed_by later then_part inner)) (ahead_of third (passed_by later else_part inner))) outputs category span)
-        (
+        around_sited inside (used_in condition w) [] (node (Conditional first (ahead_of second (passed_by later then_part inner)) (ahead_of third (passed_by later else_part inner))) outputs category span) (
           placed_sited condition inside site nothing [] [] (λ e. (refl, refl)) (has_front plan site one (two ++ three) h),
           (
             ahead_sited inside second (passed_by later then_part inner)

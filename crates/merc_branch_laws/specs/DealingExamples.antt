@@ -69,7 +69,6 @@ handovers_of-example = refl
 handovers_of-not : handovers_of moving ≡ [] → ⊥
 handovers_of-not none = cc
 
-
 moves_of-example : moves_of (handovers_of moving) had
     ≡ record { cell = 7; child = 2; signal = true } ∷ record { cell = 8; child = 2; signal = true } ∷ record { cell = 1; child = 1; signal = false } ∷ []
 moves_of-example = refl
