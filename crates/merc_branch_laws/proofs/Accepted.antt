@@ -1,5 +1,5 @@
 -- The rights that a board deals out to the branches of an accepted goal find the cells of its script.
-use Rattle.std.proofs.Common.{◌≡◌, ℕ, suc, ◌≤◌, true, false, List, [], ◌∷◌, ◌++◌, length, None, refl, subst, arith}
+use Rattle.std.proofs.Common.{ℕ, suc, true, false, List, [], ◌∷◌, ◌++◌, length, None, refl, subst}
 use Rattle.std.specs.List.{AllByRecursion}
 use Rattle.merc_tree.specs.declared.declarations.PredDecl.{PredDecl}
 use Rattle.merc_graded_tree.specs.Nodes.{Node}

@@ -1,7 +1,6 @@
 -- Where the values of cells are those of a branch's script, what finds its cells by the rights that are left to it finds those that the script has, by numbers.
-use Rattle.std.proofs.Common.{◌≡◌, refl, ap, sym, ◌∙◌, subst, arith, inl, inr, ℕ, zero, suc, ◌+◌, ◌-◌, ◌≤◌, ◌⊎◌, Bool, true, false, if◌then◌else◌, List, [], ◌∷◌, ◌++◌, length, map, Option, Some, None}
+use Rattle.std.proofs.Common.{◌≡◌, refl, ap, sym, ◌∙◌, subst, arith, inl, inr, ℕ, zero, suc, ◌+◌, ◌-◌, ◌≤◌, Bool, true, false, if◌then◌else◌, List, [], ◌∷◌, ◌++◌, length, map, Option, Some, None}
 use Rattle.std.specs.Prelude.{⊤}
-use Rattle.std.specs.List.{AllByRecursion}
 use Rattle.merc_value.specs.Value.{Value}
 use Rattle.merc_graded_tree.specs.Nodes.{Node}
 use Rattle.merc_meaning.specs.Trace.{End, RunEnd}
@@ -12,7 +11,7 @@ use Rattle.merc_script.specs.declared.cells.Move.{Move}
 use Rattle.merc_script.specs.Script.{Script, Ends, WaitThen, SignalThen, ForkThen, Children, Cell, count, ends}
 use Rattle.merc_script.specs.Joining.{joined, later}
 use Rattle.merc_core.specs.Rights.{has, without, numbers_of, moved, made_by, used_by, signals_at, waits_at, signals_behind}
-use Rattle.merc_core.specs.WellFormed.{WellFormed, ForkFits, cells_of, cells_in, value_in, gain}
+use Rattle.merc_core.specs.WellFormed.{WellFormed, cells_of, cells_in, value_in, gain}
 use Rattle.merc_course.specs.Course.{GoalCourse, RunCourse, Meets, AtWait, AtSignal, AtFork, Reply, Given, Passed, Joined, Courses, cut, cut_all}
 use Rattle.merc_course.specs.Courses.{node_course, call_course, course}
 use Rattle.merc_rights.specs.declared.sites.CellInfo.{CellInfo}
@@ -20,7 +19,7 @@ use Rattle.merc_rights.specs.declared.sites.SiteInfo.{SiteInfo}
 use Rattle.merc_board.specs.Rights.{Due, Owed, Rights, no_rights, wait_for, signal_for, child_rights, parent_rights}
 use Rattle.merc_board.specs.Boarding.{AreCells}
 use Rattle.merc_plan.specs.Branch.{NamedCell, Gift, BranchCourse, BranchCourses, no_branches, more_branches, closed, names}
-use Rattle.merc_plan.specs.Hold.{named, holding}
+use Rattle.merc_plan.specs.Hold.{named}
 use Rattle.merc_plan.specs.Branches.{first_name, Plan, root_branch}
 use Rattle.merc_plan.specs.BranchScript.{signalled, all_signalled, valued, going, script, scripts, with_numbers, renamed_cell, renamed_move, width, numbered, all_numbered, all_width, no_numbers, root_script}
 use Rattle.merc_plan.proofs.Judging.{kid_count, makes, uses, told_values, NamedFormed, AllNamedFormed}
@@ -32,12 +31,12 @@ use Rattle.merc_plan.proofs.Givers.{named_low}
 use Rattle.merc_plan.proofs.Standing.{IfFine, IsGiven, IfGiven, kid_scripts, fork_cells, Valued, AllValued, script-closed, valued-closed}
 use Rattle.merc_plan.proofs.StandingAt.{all-front, all-back, HaveValues, AreSame, fewer-waits, fewer-signals, own-or-moved, own-or-kept, distinct_have, nothing-held}
 use Rattle.merc_plan.proofs.Forms.{names_told, made_told, used_told}
-use Rattle.merc_branch_laws.specs.Dealing.{shared_of, handovers_of, moves_of, IsFork, Deals, done, raised, limited, ticks, answers, waits as deals_waits, starves, hands as deals_hands, goes_on, ends_there, DealAll, deal_none, deal_more}
+use Rattle.merc_branch_laws.specs.Dealing.{shared_of, handovers_of, IsFork, Deals, done, raised, limited, ticks, answers, waits as deals_waits, starves, hands as deals_hands, goes_on, ends_there, DealAll, deal_none, deal_more}
 use Rattle.merc_branch_laws.proofs.Parts.{part_same}
-use Rattle.merc_branch_laws.proofs.Finding.{due_cells, owed_cells, first_for, rest_for, wait_found, best_for, without_owed, signal_found}
+use Rattle.merc_branch_laws.proofs.Finding.{first_for, rest_for, wait_found, without_owed, signal_found}
 use Rattle.merc_branch_laws.proofs.Handing.{names_from, HandsOver}
-use Rattle.merc_branch_laws.proofs.Renaming.{renamed_due, renamed_owed, renamed_rights, found_wait, found_signal, child_renamed, parent_renamed, moves_renamed, rights_agree}
-use Rattle.merc_branch_laws.proofs.Looking.{are_same, past, rest_past, behind_wait, behind_signal, behind_fork, SeesWait, SeesSignal, Looks, looks_done, looks_raised, looks_deep, looks_step, looks_found, looks_wait, looks_starve, looks_signal, looks_fork, LookAll, look_none, look_more}
+use Rattle.merc_branch_laws.proofs.Renaming.{renamed_owed, renamed_rights, found_wait, found_signal, child_renamed, parent_renamed, moves_renamed, rights_agree}
+use Rattle.merc_branch_laws.proofs.Looking.{are_same, past, rest_past, behind_wait, behind_signal, behind_fork, SeesWait, Looks, looks_done, looks_raised, looks_deep, looks_step, looks_found, looks_wait, looks_starve, looks_signal, looks_fork, LookAll, look_none, look_more}
 use Rattle.merc_branch_laws.proofs.Holding.{own_due}
 use Rattle.merc_branch_laws.proofs.Keeping.{Kept, kept_none, kept_waited, kept_signalled, moved_waits_left, moved_signals_left, kept_kid, kept_behind}
 
@@ -132,9 +131,9 @@ module _ (plan : Plan) (values : ℕ → Option Value) where
 
   -- the right for the cell at a wait, and at a signal
 
-  wait_at : (numbers : ℕ → ℕ) (next : ℕ) (signals waits : List ℕ) (pending : List Due) (left : Rights) (x c : ℕ) → Kept next signals waits pending left → SeesWait pending left.waits x c → has c waits ≡ true
+  wait_at : (next : ℕ) (signals waits : List ℕ) (pending : List Due) (left : Rights) (x c : ℕ) → Kept next signals waits pending left → SeesWait pending left.waits x c → has c waits ≡ true
       → first_for x (pending ++ left.waits) ≡ Some c
-  wait_at numbers next signals waits pending left x c k sees h = sees left.waits (part_same left.waits) k.no_wait (k.has_waits c h)
+  wait_at next signals waits pending left x c k sees h = sees left.waits (part_same left.waits) k.no_wait (k.has_waits c h)
 
   found_at : (numbers : ℕ → ℕ) (x c : ℕ) (pending : List Due) (left : Rights) → first_for x (pending ++ left.waits) ≡ Some c
       → wait_for x (renamed_rights numbers (all_left pending left)).waits ≡ Some (numbers c, (renamed_rights numbers (all_left (rest_for x pending) (behind_wait x pending left))).waits)
@@ -143,7 +142,7 @@ module _ (plan : Plan) (values : ℕ → Option Value) where
       (wait_found x c (pending ++ left.waits) e ∙ ap (λ (l : List Due). Some (c, l)) (rest_past x pending left.waits))
 
   mutual
-    -- Many steps are left to a machine as to the script, and as many it made.
+    -- As many steps are left to the course as to the script, and as many were made.
     pub deals : (t : GoalCourse) (t' : BranchCourse) (next : ℕ) (frame : Bool) (pending : List Due) (left : Rights) → Looks plan next frame pending left t t'
         → (value : ℕ → Option Value) (numbers : ℕ → ℕ) (signals waits : List ℕ) → AreSame values value numbers signals waits → Kept next signals waits pending left
         → (first l s : ℕ) (g : List ℕ) → Valued value true l g t' → NamedFormed value s signals waits (script true l s g t')
@@ -158,14 +157,14 @@ module _ (plan : Plan) (values : ℕ → Option Value) where
     deals t t' next frame pending left (looks_found _ _ _ hold t1 t2 h p) value numbers signals waits same k first l s g w f a =
         answers _ l s hold.env _ _ (deals t1 t2 next frame [] left p value numbers signals waits same k first l s g w f a)
     deals t t' next frame pending left (looks_wait _ _ _ _ x c v ks go t2 sees p) value numbers signals waits same k first l s g w f a =
-        let at = wait_at numbers next signals waits pending left x c k sees f.0 in
+        let at = wait_at next signals waits pending left x c k sees f.0 in
         or_starves value numbers first (has c g) (renamed_rights numbers (all_left pending left)) l s x c _ v (cut_all l ks) _ (script true l s g t2) (Valued value true l g t2)
         (λ r. NamedFormed value s signals (without (c ∷ []) waits) r) (found_at numbers x c pending left at) (same c (inr f.0)) w f.1.1 a
         (λ w' f' a'. deals (go (Given v)) t2 next frame (rest_for x pending) (behind_wait x pending left) p value numbers signals (without (c ∷ []) waits)
         (fewer-waits values value numbers signals waits (c ∷ []) same) (kept_waited next signals waits pending left k x c at) first l s g w' f' a')
     deals t t' next frame pending left (looks_starve _ _ _ _ x c ks go sees) value numbers signals waits same k first l s g w f a =
         starves_so value numbers first (has c g) (renamed_rights numbers (all_left pending left)) l s x c _ (cut_all l ks) _ ⊤
-        (found_at numbers x c pending left (wait_at numbers next signals waits pending left x c k sees f.0)) (same c (inr f.0)) w
+        (found_at numbers x c pending left (wait_at next signals waits pending left x c k sees f.0)) (same c (inr f.0)) w
     deals t t' next frame pending left (looks_signal _ _ _ x c v ks go t2 sees p) value numbers signals waits same k first l s g w f a =
         let o = sees left.signals (part_same left.signals) k.no_signal (k.has_signals c f.0) in
         hands_so (renamed_rights numbers (all_left [] left)) l s x (numbers c) (renamed_owed numbers o.0) (map (renamed_owed numbers) (without_owed c left.signals)) v (cut_all l ks) _ _

@@ -2,19 +2,17 @@
 use Rattle.std.proofs.Common.{◌≡◌, refl, sym, ◌∙◌, subst, ℕ, zero, suc, ◌+◌, ◌-◌, arith, List, Option, Some, None}
 use Rattle.merc_value.specs.Value.{Value}
 use Rattle.merc_meaning.specs.Trace.{RunEnd}
-use Rattle.merc_script.specs.declared.outcome.Outcome.{Outcome}
 use Rattle.merc_script.specs.declared.outcome.Outcome.TheVariants.{Ok as Fine, Raise, Limit, Starved}
-use Rattle.merc_script.specs.Script.{Script, Ends, Child, Children, ends}
-use Rattle.merc_script.specs.Joining.{joined}
+use Rattle.merc_script.specs.Script.{Script, Ends, Children}
 use Rattle.merc_script.specs.Places.{child_at}
-use Rattle.merc_course.specs.Course.{RunCourse, Courses, Reply, Given, Joined}
+use Rattle.merc_course.specs.Course.{RunCourse, Courses, Given, Joined}
 use Rattle.merc_rights.specs.declared.sites.SiteInfo.{SiteInfo}
 use Rattle.merc_board.specs.Rights.{Rights, child_rights, parent_rights}
 use Rattle.merc_board.specs.Boarding.{numbers_of}
 use Rattle.merc_plan.specs.Branches.{Plan}
-use Rattle.merc_plan.specs.Stands.{Stands, done as stands_done, raised as stands_raised, limited as stands_limited, ticks as stands_ticks, answers as stands_answers, waits as stands_waits, starves as stands_starves, hands as stands_hands, goes_on as stands_on, ends_there as stands_there, StandAll, stand_none, stand_more}
+use Rattle.merc_plan.specs.Stands.{done as stands_done, raised as stands_raised, limited as stands_limited, ticks as stands_ticks, answers as stands_answers, waits as stands_waits, starves as stands_starves, hands as stands_hands, goes_on as stands_on, ends_there as stands_there, StandAll, stand_none, stand_more}
 use Rattle.merc_branch_laws.specs.Dealing.{shared_of, handovers_of, Deals, done, raised, limited, ticks, answers, waits, starves, hands, goes_on, ends_there, DealAll, deal_none, deal_more}
-use Rattle.merc_branch_laws.specs.Facing.{IsEnd, course_at, FacesTick, FacesWait, FacesSignal, FacesFork, EndsAreFaced, TicksAreFaced, AnswersAreFaced, WaitsAreFaced, SignalsAreFaced, ForksAreFaced, ChildrenAreFaced}
+use Rattle.merc_branch_laws.specs.Facing.{course_at, EndsAreFaced, TicksAreFaced, AnswersAreFaced, WaitsAreFaced, SignalsAreFaced, ForksAreFaced, ChildrenAreFaced}
 use Rattle.merc_branch_laws.specs.BranchLaws.{DealsStand}
 
 some_same : {A : Type 0} (a b : A) → Some a ≡ Some b → a ≡ b

@@ -1,6 +1,6 @@
 -- Which right is found among those for a variable: in a list, in a part of it, and with numbers in place of names.
-use Rattle.std.proofs.Common.{◌≡◌, ℕ, zero, suc, ◌⊎◌, inl, inr, Bool, true, false, not, if◌then◌else◌, List, [], ◌∷◌, ◌++◌, map, filter, refl, ap, sym, subst, ◌∙◌, arith}
-use Rattle.std.specs.Prelude.{⊤, Option, Some, None, ◌==◌, nat_eq, nat_lt}
+use Rattle.std.proofs.Common.{◌≡◌, ℕ, zero, suc, ◌⊎◌, inl, inr, Bool, true, false, not, if◌then◌else◌, List, [], ◌∷◌, map, filter, refl, ap, sym, subst, ◌∙◌, arith}
+use Rattle.std.specs.Prelude.{⊤, Option, Some, None, ◌==◌, nat_lt}
 use Rattle.std.proofs.lemmas.Bool.Decides.{nat_tests}
 use Rattle.merc_core.specs.Rights.{has}
 use Rattle.merc_core.specs.WellFormed.{AreDistinct}
@@ -8,7 +8,7 @@ use Rattle.merc_board.specs.Rights.{Due, Owed, passed_over, wait_for, is_sooner,
 use Rattle.merc_rights.specs.Rights.{is_sooner as plan_sooner}
 use Rattle.merc_plan.specs.Branch.{HeldWait, HeldSignal}
 use Rattle.merc_plan.specs.Hold.{wait_for as plan_wait, without_wait, sooner, signal_for as plan_signal, without_signal}
-use Rattle.merc_plan.proofs.Sets.{clash, is_same, same_number, first_in, rest_in, front_or, or_in, absent}
+use Rattle.merc_plan.proofs.Sets.{clash, is_same, same_number, rest_in, front_or, or_in, absent}
 use Rattle.merc_branch_laws.proofs.Parts.{Part, nothing, skip, keep, part_both, has_part, first_not, among_rest}
 
 abbrev pub due_cells : List Due → List ℕ

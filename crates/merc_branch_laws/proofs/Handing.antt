@@ -1,21 +1,20 @@
 -- What is dealt out at a fork: own rights, those that move and those that stay, as a branch's course has them and as a board deals them.
-use Rattle.std.proofs.Common.{◌≡◌, ℕ, suc, ◌≤◌, ◌<◌, ◌⊎◌, inl, inr, Bool, true, false, not, if◌then◌else◌, List, [], ◌∷◌, ◌++◌, map, filter, flat_map, refl, ap, sym, subst, ◌∙◌, arith}
+use Rattle.std.proofs.Common.{◌≡◌, ℕ, suc, ◌⊎◌, inl, inr, Bool, true, false, not, if◌then◌else◌, List, [], ◌∷◌, ◌++◌, map, filter, flat_map, refl, ap, sym, subst, ◌∙◌, arith}
 use Rattle.std.specs.Prelude.{Option, Some, None, ◌==◌, ◌&&◌, nat_eq}
 use Rattle.merc_script.specs.declared.cells.Move.{Move}
 use Rattle.merc_core.specs.Rights.{has, is_kind, moved, moved_to}
 use Rattle.merc_core.specs.WellFormed.{AreDistinct}
 use Rattle.merc_rights.specs.declared.sites.CellInfo.{CellInfo}
 use Rattle.merc_rights.specs.declared.sites.Moved.{Moved}
-use Rattle.merc_rights.specs.declared.sites.SiteInfo.{SiteInfo}
 use Rattle.merc_board.specs.declared.fork.SharedCell.{SharedCell}
 use Rattle.merc_board.specs.declared.fork.Handover.{Handover}
 use Rattle.merc_board.specs.Rights.{Due, Owed, Rights, own_waits, own_signals, child_for, goes_to, stays, waits_into, signals_into, waits_kept, signals_kept}
 use Rattle.merc_plan.specs.Branch.{HeldWait, HeldSignal, Hold, NamedCell, Gift, gift_at, value_given, names}
 use Rattle.merc_plan.specs.Hold.{named, own_waits as plan_waits, own_signals as plan_signals, child_for as plan_child, moves_if, moves_from, goes_to as plan_goes, waits_into as plan_waits_into, signals_into as plan_signals_into, stays as plan_stays, waits_kept as plan_waits_kept, signals_kept as plan_signals_kept}
-use Rattle.merc_plan.proofs.Sets.{clash, first_in, rest_in, front_or, or_in, absent, in_left, in_right, in_either}
+use Rattle.merc_plan.proofs.Sets.{clash, rest_in, front_or, or_in, absent, in_left, in_right, in_either}
 use Rattle.merc_plan.proofs.Givers.{named_low}
 use Rattle.merc_plan.proofs.Judging.{makes, uses}
-use Rattle.merc_branch_laws.specs.Dealing.{shared_of, handovers_of, moves_of}
+use Rattle.merc_branch_laws.specs.Dealing.{moves_of}
 use Rattle.merc_branch_laws.proofs.Parts.{Part, part_filter, filter_part, has_part, distinct_part, pick_part, made_same}
 use Rattle.merc_branch_laws.proofs.Finding.{due_cells, owed_cells, due_of, dues, owed_of, owing}
 
@@ -234,8 +233,8 @@ module _ {A : Type 0} (variable cell : A → ℕ) (kind : Bool) (moves : List Ha
   abbrev pub staying : A → Bool
   staying right = stays (child_for kind (variable right) moves)
 
-  is_so : (c k : ℕ) (child : ℕ) → is_kind kind (record { cell = c; child = child; signal = kind }) ≡ true
-  is_so c k child = on kind
+  is_so : (c child : ℕ) → is_kind kind (record { cell = c; child = child; signal = kind }) ≡ true
+  is_so c child = on kind
     where
       on : (b : Bool) → is_kind b (record { cell = c; child = child; signal = b }) ≡ true
       on true = refl
@@ -248,7 +247,7 @@ module _ {A : Type 0} (variable cell : A → ℕ) (kind : Bool) (moves : List Ha
       on : (o : Option ℕ) → has c (moved_to k kind (moves_if kind (cell x) o ++ flat_map made xs)) ≡ true → (has c (moved_to k kind (flat_map made xs)) ≡ true → has c (map cell (filter (entering k) xs)) ≡ true)
           → has c (map cell (if goes_to k o then x ∷ filter (entering k) xs else filter (entering k) xs)) ≡ true
       on None h rec = rec h
-      on (Some child) h rec = further (nat_eq child k) (is_kind kind (record { cell = cell x; child = child; signal = kind })) (is_so (cell x) k child) h
+      on (Some child) h rec = further (nat_eq child k) (is_kind kind (record { cell = cell x; child = child; signal = kind })) (is_so (cell x) child) h
         where
           rights : List Move
           rights = filter (λ (one : Move). nat_eq one.child k && is_kind kind one) (flat_map made xs)
@@ -270,7 +269,7 @@ module _ {A : Type 0} (variable cell : A → ℕ) (kind : Bool) (moves : List Ha
       on : (o : Option ℕ) → has c (map cell (if not (stays o) then x ∷ filter moving xs else filter moving xs)) ≡ true → (has c (map cell (filter moving xs)) ≡ true → has c (moved kind (flat_map made xs)) ≡ true)
           → has c (moved kind (moves_if kind (cell x) o ++ flat_map made xs)) ≡ true
       on None h rec = rec h
-      on (Some child) h rec = further (is_kind kind (record { cell = cell x; child = child; signal = kind })) (is_so (cell x) 0 child)
+      on (Some child) h rec = further (is_kind kind (record { cell = cell x; child = child; signal = kind })) (is_so (cell x) child)
         where
           rights : List Move
           rights = filter (is_kind kind) (flat_map made xs)

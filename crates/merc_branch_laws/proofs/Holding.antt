@@ -1,5 +1,5 @@
 -- What a branch holds behind a wait, a signal and a fork, in a conjunct and in the body of a called procedure, and what it finds there.
-use Rattle.std.proofs.Common.{◌≡◌, ℕ, zero, suc, ◌+◌, ◌≤◌, ◌<◌, ◌⊎◌, inl, inr, Bool, true, false, not, if◌then◌else◌, List, [], ◌∷◌, ◌++◌, length, map, filter, refl, ap, sym, subst, ◌∙◌, arith}
+use Rattle.std.proofs.Common.{◌≡◌, ℕ, suc, ◌+◌, ◌<◌, ◌⊎◌, inl, inr, Bool, true, false, not, if◌then◌else◌, List, [], ◌∷◌, ◌++◌, length, refl, ap, sym, subst, ◌∙◌, arith}
 use Rattle.std.specs.Prelude.{Option, Some, None, ◌==◌}
 use Rattle.merc_graded_tree.specs.Nodes.{Node}
 use Rattle.merc_meaning.specs.Trace.{Env}
@@ -12,14 +12,13 @@ use Rattle.merc_rights.specs.declared.sites.SiteInfo.{SiteInfo}
 use Rattle.merc_board.specs.declared.fork.Handover.{Handover}
 use Rattle.merc_board.specs.Rights.{Due, Owed, Rights, own_waits, own_signals, child_for, goes_to, stays, waits_into, signals_into, waits_kept, signals_kept, child_rights}
 use Rattle.merc_plan.specs.Branch.{HeldWait, HeldSignal, Hold, Gift}
-use Rattle.merc_plan.specs.Hold.{holding, with_env, wait_for as plan_wait, without_wait, signal_for as plan_signal, without_signal, named, own_waits as plan_waits, own_signals as plan_signals, moves_from, waits_into as plan_waits_into, signals_into as plan_signals_into, waits_kept as plan_waits_kept, signals_kept as plan_signals_kept, conjunct_hold, hold_behind}
+use Rattle.merc_plan.specs.Hold.{holding, with_env, wait_for as plan_wait, without_wait, signal_for as plan_signal, without_signal, named, own_waits as plan_waits, own_signals as plan_signals, moves_from, waits_into as plan_waits_into, signals_into as plan_signals_into, waits_kept as plan_waits_kept, conjunct_hold, hold_behind}
 use Rattle.merc_plan.specs.Branches.{signal_cell}
 use Rattle.merc_plan.proofs.NumberingLists.{distinct_append}
 use Rattle.merc_plan.proofs.Sets.{clash, front_or, in_either}
 use Rattle.merc_plan.proofs.Givers.{named_low}
-use Rattle.merc_plan.proofs.Judging.{makes, uses}
 use Rattle.merc_branch_laws.specs.Dealing.{shared_of, handovers_of, moves_of}
-use Rattle.merc_branch_laws.proofs.Parts.{Part, nothing, part_same, part_both, part_front, part_filter, filter_part, has_part, distinct_part}
+use Rattle.merc_branch_laws.proofs.Parts.{Part, nothing, part_front, part_filter, filter_part, has_part, distinct_part}
 use Rattle.merc_branch_laws.proofs.Finding.{due_cells, owed_cells, first_for, rest_for, rest_part, first_part, due_of, dues, first_due, rest_due, best_for, without_owed, best_part, owed_of, owing, best_held, left_owed}
 use Rattle.merc_branch_laws.proofs.Handing.{map_both, shared, names_from, own_dues, own_owed, own_uses, own_makes, used_named, made_named, uses_distinct, makes_distinct, handed, into_dues, into_owed, kept_dues, kept_owed, moves_same, HandsOver, part_hands, none_hand}
 use Rattle.merc_branch_laws.proofs.Looking.{ArePart, past, past_part, past_more, rest_past, behind_wait, behind_signal, behind_fork, Covers, covers_less, Holds, SeesWait, SeesSignal}

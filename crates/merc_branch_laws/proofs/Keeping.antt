@@ -1,7 +1,6 @@
 -- Each cell that a script still holds, by name, is one of the rights that are left.
-use Rattle.std.proofs.Common.{◌≡◌, ℕ, suc, ◌+◌, ◌≤◌, ◌<◌, ◌⊎◌, inl, inr, Bool, true, false, not, List, [], ◌∷◌, ◌++◌, length, map, refl, ap, sym, subst, ◌∙◌, arith}
-use Rattle.std.specs.Prelude.{Option, Some, None, ◌==◌}
-use Rattle.std.specs.List.{AllByRecursion}
+use Rattle.std.proofs.Common.{◌≡◌, ℕ, ◌+◌, ◌≤◌, ◌<◌, ◌⊎◌, inl, inr, Bool, true, false, not, List, [], ◌∷◌, ◌++◌, length, refl, sym, subst, ◌∙◌, arith}
+use Rattle.std.specs.Prelude.{Some, ◌==◌}
 use Rattle.merc_script.specs.declared.cells.Move.{Move}
 use Rattle.merc_script.specs.Script.{Cell}
 use Rattle.merc_core.specs.Rights.{has, without, numbers_of, moved, moved_to, made_by, used_by, signals_at, waits_at, signals_behind}
@@ -14,7 +13,7 @@ use Rattle.merc_plan.proofs.Sets.{clash, absent, first_in, in_left, in_right, in
 use Rattle.merc_plan.proofs.Givers.{named_low}
 use Rattle.merc_plan.proofs.Judging.{makes, uses}
 use Rattle.merc_branch_laws.specs.Dealing.{shared_of, handovers_of}
-use Rattle.merc_branch_laws.proofs.Parts.{Part, part_filter, filter_part, has_part, distinct_part}
+use Rattle.merc_branch_laws.proofs.Parts.{Part, filter_part, has_part, distinct_part}
 use Rattle.merc_branch_laws.proofs.Finding.{due_cells, owed_cells, first_for, rest_for, rest_part, rest_has, without_owed, left_has}
 use Rattle.merc_branch_laws.proofs.Handing.{map_both, names_from, own_uses, own_makes, used_named, made_named, HandsOver}
 use Rattle.merc_branch_laws.proofs.Looking.{past, past_part, rest_past, behind_wait, behind_signal, behind_fork}

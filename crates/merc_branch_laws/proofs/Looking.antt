@@ -1,7 +1,7 @@
 -- The course of a goal belongs to the course of a branch, and the rights that are left to the branch find the cells that its course has. Rights that were used stay used,
 -- where a branch's course goes back to what it held before.
-use Rattle.std.proofs.Common.{◌≡◌, ℕ, zero, suc, ◌+◌, ◌≤◌, ◌<◌, Bool, true, false, if◌then◌else◌, List, [], ◌∷◌, ◌++◌, length, map, filter, refl, ap, sym, subst, ◌∙◌}
-use Rattle.std.specs.Prelude.{Option, Some, None, ◌==◌, not}
+use Rattle.std.proofs.Common.{◌≡◌, ℕ, suc, ◌+◌, ◌≤◌, ◌<◌, Bool, true, false, if◌then◌else◌, List, [], ◌∷◌, ◌++◌, length, refl, ap, sym, subst}
+use Rattle.std.specs.Prelude.{Some, None, ◌==◌, not}
 use Rattle.merc_value.specs.Value.{Value}
 use Rattle.merc_meaning.specs.Trace.{Env, End, Done, Raised as RaisedEnd, TooDeep as TooDeepEnd}
 use Rattle.merc_core.specs.Rights.{has}
@@ -9,14 +9,13 @@ use Rattle.merc_core.specs.WellFormed.{AreDistinct}
 use Rattle.merc_course.specs.Course.{GoalCourse, Ends, Tick, Answer, Meets, AtWait, AtSignal, AtFork, Reply, Given, Passed, Joined, Courses, no_courses, more_courses, after, each, taken_back, first_alone, choose, negated, closed}
 use Rattle.merc_course.specs.Courses.{once_if}
 use Rattle.merc_rights.specs.declared.sites.SiteInfo.{SiteInfo}
-use Rattle.merc_board.specs.declared.fork.Handover.{Handover}
 use Rattle.merc_board.specs.Rights.{Due, Owed, Rights, own_waits, child_for, stays, waits_kept, signals_kept, child_rights}
 use Rattle.merc_plan.specs.Branch.{Hold, Fork, BranchCourse, BranchCourses, Over, Breaks, Steps, Finds, Awaits, Gives, Forks, no_branches, more_branches, Raised, TooDeep, Starving, after as b_after, each as b_each, taken_back as b_taken, first_alone as b_first, choose as b_choose, negated as b_negated, closed as b_closed}
 use Rattle.merc_plan.specs.Hold.{named}
 use Rattle.merc_plan.specs.Branches.{Plan, once_if as b_once_if}
 use Rattle.merc_plan.proofs.Judging.{kid_count}
 use Rattle.merc_branch_laws.specs.Dealing.{shared_of, handovers_of}
-use Rattle.merc_branch_laws.proofs.Parts.{Part, nothing, skip, keep, part_same, part_both, part_filter, filter_part}
+use Rattle.merc_branch_laws.proofs.Parts.{Part, part_same, part_both, part_filter, filter_part}
 use Rattle.merc_branch_laws.proofs.Finding.{due_cells, owed_cells, first_for, rest_for, rest_part, rest_more, dues, best_for, without_owed, owing}
 use Rattle.merc_branch_laws.proofs.Handing.{names_from, HandsOver}
 

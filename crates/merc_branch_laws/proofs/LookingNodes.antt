@@ -1,37 +1,33 @@
 -- Each goal's course finds its cells, where rights to wait for a fork's own cells are used directly behind it.
-use Rattle.std.proofs.Common.{◌≡◌, ℕ, zero, suc, ◌+◌, ◌≤◌, Bool, true, false, if◌then◌else◌, List, [], ◌∷◌, ◌++◌, length, map, filter, refl, ap, sym, subst, ◌∙◌, arith}
+use Rattle.std.proofs.Common.{◌≡◌, ℕ, zero, suc, ◌+◌, Bool, true, false, if◌then◌else◌, List, [], ◌∷◌, ◌++◌, length, map, filter, refl, ap, sym, subst, ◌∙◌, arith}
 use Rattle.std.specs.Prelude.{Option, Some, None, ◌==◌}
-use Rattle.merc_base.specs.declared.category.Category.{Category}
-use Rattle.merc_base.specs.declared.place.Span.{Span}
 use Rattle.merc_value.specs.Value.{Value, Values}
 use Rattle.merc_goal_tree.specs.declared.goal.Symbol.{Symbol}
 use Rattle.merc_graded_tree.specs.declared.basic.BasicGoal.{BasicGoal}
 use Rattle.merc_graded_tree.specs.declared.basic.BasicGoal.TheVariants.{True, Fail, Assign, Test, Build, Split, Arithmetic, Compare, Raise, Call, Wait, Signal}
 use Rattle.merc_graded_tree.specs.declared.basic.Procedure.{Procedure}
 use Rattle.merc_graded_tree.specs.declared.basic.Site.{Site}
-use Rattle.merc_graded_tree.specs.declared.entries.Running.TheVariants.{Sequential, Parallel}
-use Rattle.merc_graded_tree.specs.Nodes.{Node, node, Goal, Basic, Conjunction, Disjunction, Switch, Conditional, Negation, Quantified, Nodes, no_nodes, more_nodes, Arms, no_arms, more_arms}
+use Rattle.merc_graded_tree.specs.declared.entries.Running.TheVariants.{Parallel}
+use Rattle.merc_graded_tree.specs.Nodes.{Node, node, Goal, Conjunction, Nodes, no_nodes, more_nodes, Arms}
 use Rattle.merc_meaning.specs.Values.{fields, same}
 use Rattle.merc_meaning.specs.Arithmetic.{comparison_of}
 use Rattle.merc_meaning.specs.Trace.{Env, Trace, Ends as TraceEnds, Tick as TraceTick, Answer as TraceAnswer, Done, Raised as RaisedEnd, TooDeep as TooDeepEnd}
 use Rattle.merc_meaning.specs.Steps.{value_at, with_entry, values_at, made_if, binds, compared, split, operated, raised, entered, brought_back}
 use Rattle.merc_meaning.specs.Runs.{Program, ProcedureBody, answers_once}
-use Rattle.merc_course.specs.Course.{GoalCourse, Meets, AtWait, AtFork, Reply, Joined, Courses, no_courses, whole, one_answer, each}
+use Rattle.merc_course.specs.Course.{GoalCourse, Meets, AtWait, AtFork, Reply, Joined, no_courses, whole, one_answer, each}
 use Rattle.merc_course.specs.Variables.{node_variables, only}
 use Rattle.merc_course.specs.Courses.{told, handed_on, once_if, called, where_some, taken_arm, basic_course, goal_course, node_course, all_course, any_course, arms_course, conjuncts, body_course, call_course}
 use Rattle.merc_rights.specs.declared.sites.CellInfo.{CellInfo}
 use Rattle.merc_rights.specs.declared.sites.SiteInfo.{SiteInfo}
 use Rattle.merc_par_split.specs.Sites.{count}
 use Rattle.merc_board.specs.Rights.{Due, Rights}
-use Rattle.merc_plan.specs.Branch.{HeldWait, Hold, Fork, Gift, BranchCourse, BranchCourses, Over, Finds, Forks, gives, each as b_each}
+use Rattle.merc_plan.specs.Branch.{HeldWait, Hold, Gift, BranchCourse, Over, Finds, Forks, gives, each as b_each}
 use Rattle.merc_plan.specs.Hold.{named, holding, with_env, wait_for, without_wait, signal_for, fork_of, conjunct_hold, hold_behind}
 use Rattle.merc_plan.specs.Branches.{Plan, traced, awaited, signal_cell, signalled, info_of, basic_branch, goal_branch, node_branch, all_branch, any_branch, arms_branch, conjunct_branches, conjunct_gifts, body_branch, call_branch, once_if as b_once_if, called as b_called, where_some as b_where_some, taken_arm as b_taken_arm, first_name, root_branch}
 use Rattle.merc_plan.proofs.Judging.{kid_count}
 use Rattle.merc_plan.proofs.TellingNodes.{bound_behind, removed, Prompt, prompt, PromptGoal, basic, in_turn, unplanned, forked, any_of, switched, conditional, negation, quantified, AllPrompt, all_none, all_first, all_fork, all_wait, EachPrompt, each_none, each_first, ArmsPrompt, arms_none, arms_first, ArePrompt}
-use Rattle.merc_branch_laws.specs.Dealing.{shared_of, handovers_of}
 use Rattle.merc_branch_laws.proofs.Finding.{rest_for}
-use Rattle.merc_branch_laws.proofs.Handing.{names_from}
-use Rattle.merc_branch_laws.proofs.Looking.{ArePart, are_same, behind_wait, behind_fork, Holds, holds_less, SeesWait, Looks, looks_done, looks_raised, looks_deep, looks_step, looks_found, looks_wait, looks_starve, looks_signal, looks_fork, LookAll, look_none, look_more, looks_after, looks_each, looks_taken, looks_once, looks_choose, looks_negated, looks_closed}
+use Rattle.merc_branch_laws.proofs.Looking.{behind_wait, behind_fork, Holds, holds_less, SeesWait, Looks, looks_done, looks_raised, looks_deep, looks_step, looks_found, looks_wait, looks_starve, looks_signal, looks_fork, LookAll, look_none, look_more, looks_after, looks_each, looks_taken, looks_once, looks_choose, looks_negated, looks_closed}
 use Rattle.merc_branch_laws.proofs.Holding.{holds_env, holds_called, sees_right, sees_nothing, holds_waited, sees_signal, holds_signalled, own_due, holds_kid, holds_behind, hands_over}
 use Rattle.merc_branch_laws.proofs.Siting.{IsPlanned, Sited, GoalSited, AllSited, ArmsSited}
 

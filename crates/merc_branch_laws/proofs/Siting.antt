@@ -1,18 +1,16 @@
 -- What stands at the sites of split trees: each is planned, with as many conjuncts as it has, and nothing moves at those that stand in no conjunct.
-use Rattle.std.proofs.Common.{◌≡◌, ℕ, zero, suc, ◌+◌, Bool, true, false, not, if◌then◌else◌, List, [], ◌∷◌, ◌++◌, length, map, filter, flat_map, refl, ap, sym, subst, ◌∙◌}
+use Rattle.std.proofs.Common.{◌≡◌, ℕ, suc, ◌+◌, Bool, true, false, not, if◌then◌else◌, List, [], ◌∷◌, ◌++◌, map, filter, flat_map, refl, ap, ◌∙◌}
 use Rattle.std.specs.Prelude.{⊤, Option, Some, None, ◌==◌, ◌||◌}
 use Rattle.std.specs.List.{AllByRecursion}
 use Rattle.merc_base.specs.declared.category.Category.{Category}
-use Rattle.merc_base.specs.declared.category.Category.TheVariants.{Det}
 use Rattle.merc_base.specs.declared.place.Span.{Span}
-use Rattle.merc_graded_tree.specs.declared.basic.BasicGoal.TheVariants.{Wait, Signal}
 use Rattle.merc_graded_tree.specs.declared.basic.Site.{Site}
 use Rattle.merc_graded_tree.specs.declared.entries.Running.TheVariants.{Sequential, Parallel}
-use Rattle.merc_graded_tree.specs.Nodes.{Node, node, Goal, Basic, Conjunction, Disjunction, Switch, Conditional, Negation, Quantified, Nodes, no_nodes, more_nodes, Arms, no_arms, more_arms, nodes_of, outputs_of, category_of, span_of}
+use Rattle.merc_graded_tree.specs.Nodes.{Node, node, Goal, Basic, Conjunction, Disjunction, Switch, Conditional, Negation, Quantified, Nodes, no_nodes, more_nodes, Arms, no_arms, more_arms, nodes_of, outputs_of, span_of}
 use Rattle.merc_graded_tree.specs.Variables.{in_node, in_nodes}
 use Rattle.merc_rights.specs.declared.sites.Moved.{Moved}
 use Rattle.merc_rights.specs.declared.sites.SiteInfo.{SiteInfo}
-use Rattle.merc_rights.specs.Rights.{Right, right_to, those, used_in, unused_in, passed_by, bound_in, unbound_in, wait_at, signal_at, in_place_of, between, around, ahead_of, signals_of}
+use Rattle.merc_rights.specs.Rights.{Right, right_to, those, used_in, unused_in, passed_by, bound_in, unbound_in, wait_at, signal_at, between, around, ahead_of, signals_of}
 use Rattle.merc_par_split.specs.Forks.{forks}
 use Rattle.merc_par_split.specs.Split.{may_fail, nothing, moves_in, placed, placed_goal, placed_in_turn, placed_conjuncts, placed_arms, placed_alone, split, all_split}
 use Rattle.merc_par_split.specs.Sites.{count, are_for, signal_moves, site_info, planned, planned_goal, planned_in_turn, planned_conjuncts, planned_arms, planned_alone, sites, all_sites}

@@ -1,20 +1,16 @@
 -- Worked examples of rights that find the cells of scripts, at the script of `X = 1 & Y = X`.
-use Rattle.std.specs.Prelude.{◌≡◌, ℕ, pos, List, [], ◌∷◌, true, false, Option, Some, None, refl}
+use Rattle.std.specs.Prelude.{◌≡◌, ℕ, List, [], ◌∷◌, true, false, Option, Some, None, refl}
 use Rattle.std.proofs.Common.{ap}
-use Rattle.merc_value.specs.Value.{Value, Int}
+use Rattle.merc_value.specs.Value.{Value}
 use Rattle.merc_meaning.specs.Trace.{RunDone, RunRaised, LimitPassed}
 use Rattle.merc_script.specs.declared.outcome.Outcome.{Outcome}
 use Rattle.merc_script.specs.declared.outcome.Outcome.TheVariants.{Ok as Fine, Raise, Limit, Starved}
-use Rattle.merc_script.specs.declared.cells.Move.{Move}
 use Rattle.merc_script.specs.Script.{Script, Ends, TickThen, WaitThen, SignalThen, ForkThen, NoChild, Child, Cell}
 use Rattle.merc_core.specs.WellFormed.{cells_of, value_in}
 use Rattle.merc_course.specs.Course.{RunCourse, Ends as CourseEnds, Tick, Meets, AtWait, AtSignal, AtFork, no_courses, more_courses}
 use Rattle.merc_course.specs.Courses.{course}
 use Rattle.merc_rights.specs.declared.sites.SiteInfo.{SiteInfo}
-use Rattle.merc_board.specs.declared.fork.SharedCell.{SharedCell}
-use Rattle.merc_board.specs.declared.fork.Handover.{Handover}
 use Rattle.merc_board.specs.Rights.{Due, Owed, Rights, no_rights}
-use Rattle.merc_plan.specs.Branches.{Plan}
 use Rattle.merc_plan.specs.PlaysExamples.{one, both, plan, program}
 use Rattle.merc_branch_laws.specs.Dealing.{shared_of, handovers_of, moves_of, IsFork, Deals, done, raised, limited, ticks, answers, waits, starves, hands, goes_on, ends_there, deal_none, deal_more}
 

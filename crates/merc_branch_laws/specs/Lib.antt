@@ -2,3 +2,4 @@ pub mod Dealing
 pub mod Facing
 pub mod BranchLaws
 pub mod DealingExamples
+pub mod FacingExamples
