@@ -14,6 +14,8 @@ pub mod Deciding
 pub mod Delivering
 pub mod Entering
 pub mod Fitting
+pub mod Forking
+pub mod Giving
 pub mod Going
 pub mod GoingBack
 pub mod Growing
@@ -28,12 +30,14 @@ pub mod LeftOver
 pub mod Linking
 pub mod LookedAt
 pub mod Marking
+pub mod MetAt
 pub mod Passing
 pub mod Pausing
 pub mod Performing
 pub mod Places
 pub mod PlacesOfCalls
 pub mod Reading
+pub mod Ready
 pub mod Resulting
 pub mod Returning
 pub mod ReturningResults
@@ -44,6 +48,7 @@ pub mod Silent
 pub mod Slots
 pub mod Standings
 pub mod Starting
+pub mod Stopping
 pub mod Superinstructions
 pub mod Switching
 pub mod SwitchingFields

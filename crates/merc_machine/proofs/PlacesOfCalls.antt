@@ -17,7 +17,7 @@ use Rattle.merc_load.specs.Loaded.{StandsAt, op_of, ops_of}
 use Rattle.merc_load.specs.PassingSum.{IsTakenOut, PassesSum, calls as calls_with, calls_last as calls_last_with}
 use Rattle.merc_load.specs.Superinstructions.{IsSuperinstruction, operates, builds, splits, tries_test, decides, compares_with, jumps_back, decides_all, switches as switches_fields, switches_list, returns_result, returns_built, returns_copy}
 use Rattle.merc_machine.proofs.Leaving.{left_out}
-use Rattle.merc_machine.proofs.Linking.{Links, links, does, jumps, switches, tries, marks, commits, softens, calls_none, calls, calls_last, returns, fails, answers}
+use Rattle.merc_machine.proofs.Linking.{Links, links, does, jumps, switches, tries, marks, commits, softens, calls_none, calls, calls_last, returns, fails, answers, meets, closes}
 use Rattle.merc_machine.proofs.Places.{stands_first}
 use Rattle.merc_machine.proofs.Superinstructions.{Stands, replaces}
 
@@ -147,6 +147,8 @@ module _ (codes : Codes) (entry_of : Procedure → Entry) (variables : ℕ) (own
   never_linked _ _ _ (returns rest) h = h
   never_linked _ _ _ (fails rest) h = h
   never_linked _ _ _ (answers shown rest) h = h
+  never_linked _ _ _ (meets instruction rest meeting) h = h
+  never_linked _ _ _ (closes rest) h = h
 
   never_several : (listed : List Op) (op : Op) → IsSuperinstruction listed op → DoesPassSum op → ⊥
   never_several listed (CallSum entry passes sum) several h = replaces listed (CallSum entry passes sum) several

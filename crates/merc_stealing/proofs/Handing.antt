@@ -17,7 +17,7 @@ use Rattle.merc_stealing.specs.declared.branch.Hold.{Hold}
 use Rattle.merc_stealing.specs.Lying.{due_of, owed_of}
 use Rattle.merc_stealing.specs.Kids.{IsFor, AreFor, with_wait, with_signal, with_waits, with_signals}
 
-one_more_over : {A : Type 0} (b c : Bool) (y x : A) (f g : List A) → g ≡ (if c then f ++ x ∷ [] else f)
+pub one_more_over : {A : Type 0} (b c : Bool) (y x : A) (f g : List A) → g ≡ (if c then f ++ x ∷ [] else f)
     → (if b then y ∷ g else g) ≡ (if c then (if b then y ∷ f else f) ++ x ∷ [] else (if b then y ∷ f else f))
 one_more_over true true y x f g e = ap (λ l. y ∷ l) e
 one_more_over true false y x f g e = ap (λ l. y ∷ l) e
@@ -118,3 +118,11 @@ pub begin_signals : {L : Type 0} (table : TableId) (room : ℕ) (loads : List L)
     → AreFor table (length l + room) loads has kids → AreFor table (length rest + room) loads (with_signals moves [] has) kids
 begin_signals {L} table room loads moves has kids l rest same are = subst (λ (r : List (HeldSignal L)). AreFor table (length r + room) loads (with_signals moves [] has) kids) (sym same)
     (are_same table (length l + room) loads has (with_signals moves [] has) kids (λ number. λ i. record { waits = (has number).waits; signals = sym (append-nil (has number).signals) i }) are)
+
+-- rights that were taken out of a hold to be handed out
+module _ {L : Type 0} (table : TableId) (loads : List L) (moves : List Handover) (has : ℕ → Rights) (ws ws' : List (HeldWait L)) (ss ss' : List (HeldSignal L)) (w : ws ≡ ws') (s : ss ≡ ss') (room : ℕ) (kids : List (Box (Branch L (Hold L)) Global)) where
+  pub to_hand : AreFor table (length ws' + (length ss' + room)) loads has kids → AreFor table (length ws + (length ss + room)) loads has kids
+  to_hand are = subst (λ (x : List (HeldWait L) × List (HeldSignal L)). AreFor table (length x.0 + (length x.1 + room)) loads has kids) (λ i. (sym w i, sym s i)) are
+
+  pub handed : AreFor table room loads (with_signals moves (map owed_of ss) (with_waits moves (map due_of ws) has)) kids → AreFor table room loads (with_signals moves (map owed_of ss') (with_waits moves (map due_of ws') has)) kids
+  handed are = subst (λ (x : List (HeldWait L) × List (HeldSignal L)). AreFor table room loads (with_signals moves (map owed_of x.1) (with_waits moves (map due_of x.0) has)) kids) (λ i. (w i, s i)) are

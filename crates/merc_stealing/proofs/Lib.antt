@@ -8,3 +8,7 @@ mod Dealing
 mod Picking
 mod Giving
 mod Handing
+mod CellLaws
+mod ForkLaws
+mod HandLaws
+mod Forming

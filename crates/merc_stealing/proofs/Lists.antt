@@ -1,7 +1,7 @@
 -- Lists: what stands at a place where one more comes at the end.
 use Rattle.std.proofs.Common.{◌≡◌, ℕ, zero, suc, ◌+◌, ◌<◌, List, [], ◌∷◌, ◌++◌, length, refl, sym, ap, ◌∙◌, subst, arith, ⊎_elim, ◌⊎◌, inl, inr}
-use Rattle.std.specs.Prelude.{Option, Some, None, slice_get}
-use Rattle.std.proofs.lemmas.List.{length-append}
+use Rattle.std.specs.Prelude.{Option, Some, None, slice_get, slice_index_or}
+use Rattle.std.proofs.lemmas.List.{length-append, get_or_append_left}
 use Rattle.std.specs.List.{All}
 
 pub got_end : {A : Type 0} (l : List A) (a b : A) (j : ℕ) → slice_get (l ++ a ∷ []) j ≡ Some b → (slice_get l j ≡ Some b) ⊎ ((j ≡ length l) × (a ≡ b))
@@ -42,3 +42,13 @@ all_at Q front rest more whole x is begins all = there Q front x more (subst (Al
     there : {A : Type 0} (Q : A → Type 0) (front : List A) (x : A) (more : List A) → All Q (front ++ x ∷ more) → Q x
     there Q [] x more all = all zero x (omega arith)
     there Q (y ∷ ys) x more all = there Q ys x more (λ k d near. all (suc k) d (omega (arith, near)))
+
+pub got_or : {A : Type 0} (l : List A) (i : ℕ) (d : A) → i < length l → slice_get l i ≡ Some (slice_index_or l i d)
+got_or [] i d near = absurd (omega (arith, near))
+got_or (x ∷ xs) zero d near = refl
+got_or (x ∷ xs) (suc i) d near = got_or xs i d (omega (arith, near))
+
+-- what all of a list are, all but its last are
+pub all_front : {A : Type 0} (Q : A → Type 0) (l m : List A) (x : A) → m ≡ l ++ x ∷ [] → All Q m → All Q l
+all_front Q l m x is all k d near =
+    subst Q (get_or_append_left l (x ∷ []) d k near) (subst (All Q) is all k d (let more = length-append l (x ∷ []) in omega (arith, near, more)))

@@ -81,28 +81,33 @@ placed_on : {L : Type 0} (root : Script) (o : Spot) (ticket : Option (Ticket (Be
 placed_on root o None placed = placed
 placed_on root o (Some ticket) placed = placed
 
--- a parent behind its Fork, with what its children make together
+-- a parent that has come out of its berth
+pub runs_behind : {L : Type 0} (root : Script) (stands awaits forked : L → Rights → Place → Type 0) (shows : ℕ → BlockData → Type 0) (table : TableId) (berth : Berth) (lay : Branch L (Hold L))
+    → Unmoored root stands awaits forked shows table (spot_of berth) lay → IsMoored table Filled Forks berth → Runs root table lay.hold
+runs_behind {L} root stands awaits forked shows table berth lay came moored =
+    let here : spot_held lay.hold.berth ≡ behind (spot_of berth) = came.spot ∙ ap (λ p. after_as p (spot_of berth)) moored.2 in
+    let named : AreNamed table lay.hold = subst (λ t. AreNamed t lay.hold) moored.1 came.lay.named in
+    record {
+      berthed = came.berthed;
+      placed = subst (λ o. Placed root o lay.hold.place) (sym here) (placed_on root (spot_of berth) lay.hold.place came.lay.placed);
+      unlinked = subst (λ p. LinkFits p (spot_of berth).yard.table_id lay.hold.link) moored.2 came.lay.linked;
+      named = named;
+    }
+
+-- .. behind its Fork, with what its children make together
 pub came_back : {L : Type 0} (root : Script) (stands awaits forked : L → Rights → Place → Type 0) (shows : ℕ → BlockData → Type 0) (table : TableId) (berth : Berth) (outcomes : List Outcome) (lay : Branch L (Hold L)) (outcome : Outcome)
     → Unmoored root stands awaits forked shows table (spot_of berth) lay → outcome ≡ joined_behind lay.hold.limit (Fine 0) outcomes → AreEnds root table berth outcomes
     → IsParent root stands awaits forked shows table (record lay { hold = record lay.hold { held = Some outcome } })
 came_back {L} root stands awaits forked shows table berth outcomes lay outcome came made are =
     let purpose : (spot_of berth).purpose ≡ Forks = are.moored.2 in
-    let yard : (spot_of berth).yard.table_id ≡ table = are.moored.1 in
-    let behind_it : after (spot_of berth) ≡ behind (spot_of berth) = ap (λ p. after_as p (spot_of berth)) purpose in
     let forks : ForksAt root stands awaits forked shows lay.load (rights lay.hold) lay.hold.limit (place root (spot_of berth)) =
     subst (λ p. LiesFor root stands awaits forked shows p (place root (spot_of berth)) lay) purpose came.lay.stands_so in
-    let here : spot_held lay.hold.berth ≡ behind (spot_of berth) = came.spot ∙ behind_it in
-    let named : AreNamed table lay.hold = subst (λ t. AreNamed t lay.hold) yard came.lay.named in
+    let runs = runs_behind root stands awaits forked shows table berth lay came are.moored in
     record {
       fork = spot_of berth;
       holds = record {
-        runs = record {
-          berthed = came.berthed;
-          placed = subst (λ o. Placed root o lay.hold.place) (sym here) (placed_on root (spot_of berth) lay.hold.place came.lay.placed);
-          unlinked = subst (λ p. LinkFits p (spot_of berth).yard.table_id lay.hold.link) purpose came.lay.linked;
-          named = record { waits = named.waits; signals = named.signals };
-        };
-        spot = here;
+        runs = record { berthed = runs.berthed; placed = runs.placed; unlinked = runs.unlinked; named = record { waits = runs.named.waits; signals = runs.named.signals } };
+        spot = came.spot ∙ ap (λ p. after_as p (spot_of berth)) purpose;
         held = subst (IsJoin root (spot_of berth)) (sym made) (joins_so root berth table outcomes lay.hold.limit forks.cells forks.moves forks.children forks.rest forks.left are);
       };
       forks = forks;

@@ -19,9 +19,12 @@ use Rattle.merc_stealing.specs.Memory.{has_memory}
 use Rattle.merc_stealing.specs.declared.branch.HeldWait.{HeldWait}
 use Rattle.merc_stealing.specs.declared.branch.HeldSignal.{HeldSignal}
 use Rattle.merc_stealing.specs.Picking.{lifted, later, wait_place}
-use Rattle.merc_stealing.specs.Kids.{with_wait}
-use Rattle.merc_stealing.specs.Sharing.{cells_ahead, number_at}
-use Rattle.merc_board.specs.Rights.{no_rights}
+use Rattle.merc_stealing.specs.Kids.{with_wait, with_waits, AreFor}
+use Rattle.merc_stealing.specs.Sharing.{cells_ahead, number_at, own_rights}
+use Rattle.merc_stealing.specs.Hands.{is_none}
+use Rattle.merc_board.specs.Rights.{Due, Rights, no_rights}
+use Rattle.merc_board.specs.declared.fork.SharedCell.{SharedCell}
+use Rattle.merc_board.specs.declared.fork.Handover.{Handover}
 
 -- a root that makes a Tick, signals cell 6, makes a Tick and forks two children, and then waits for cell 7
 abbrev root : Script
@@ -117,3 +120,43 @@ given-second = (refl, refl)
 -- the fork of the root has no cells, and a list's place that is not there has number 0
 pub cells-none : (cells_ahead root (at 0) ≡ []) × (number_at (4 ∷ 6 ∷ []) 1 ≡ 6) × (number_at (4 ∷ 6 ∷ []) 2 ≡ 0)
 cells-none = (refl, refl, refl)
+
+-- .. and one that shares cell 7, which child 1 signals and child 2 waits for, and cell 9 of child 2 for the parent
+abbrev sharing : Script
+sharing = TickThen (ForkThen 10 (record { cell = 7; producer = 1; consumer = 2; value = None } ∷ record { cell = 9; producer = 2; consumer = 0; value = None } ∷ []) [] (Child (Ends (Fine 1)) (Child (Ends (Fine 1)) NoChild)) (Ends (Fine 5)))
+
+abbrev shared : List SharedCell
+shared = record { variable = 5; producer = 1; consumer = 2 } ∷ record { variable = 6; producer = 2; consumer = 0 } ∷ []
+
+pub cells-shared : cells_ahead sharing (at 0) ≡ 7 ∷ 9 ∷ []
+cells-shared = refl
+
+pub first-child : own_rights shared (7 ∷ 9 ∷ []) 1 ≡ record { waits = []; signals = record { variable = 5; consumer = 2; cell = 7 } ∷ [] }
+first-child = refl
+
+pub second-child : own_rights shared (7 ∷ 9 ∷ []) 2 ≡ record { waits = record { variable = 5; cell = 7 } ∷ []; signals = record { variable = 6; consumer = 0; cell = 9 } ∷ [] }
+second-child = refl
+
+pub parent-behind : own_rights shared (7 ∷ 9 ∷ []) 0 ≡ record { waits = record { variable = 6; cell = 9 } ∷ []; signals = [] }
+parent-behind = refl
+
+-- of the parent's rights to wait the one for variable 8 moves into child 2, and the one for variable 9 does not
+abbrev moving : List Handover
+moving = record { variable = 8; child = 2; signal = false } ∷ []
+
+abbrev parents : List Due
+parents = record { variable = 9; cell = 1 } ∷ record { variable = 8; cell = 3 } ∷ []
+
+pub moved-second : (with_waits moving parents (λ number. no_rights) 2 ≡ record { waits = record { variable = 8; cell = 3 } ∷ []; signals = [] }) × (with_waits moving parents (λ number. no_rights) 1 ≡ no_rights)
+moved-second = (refl, refl)
+
+-- no branches for no loads, and not for one load
+pub for-none : {L : Type 0} (has : ℕ → Rights) → AreFor {L = L} yard 0 [] has []
+for-none has = record { count = refl; each = λ i kid there. absurd (cc (there)) }
+
+pub for-one : {L : Type 0} (load : L) (has : ℕ → Rights) → AreFor {L = L} yard 0 (load ∷ []) has [] → ⊥
+for-one load has are = absurd (let count = are.count in omega (arith, count))
+
+-- the root has no place in a join, and a child has one
+pub root-placed : (is_none {A = ℕ} None ≡ true) × (is_none (Some 3) ≡ false)
+root-placed = (refl, refl)

@@ -10,4 +10,6 @@ pub mod Parents
 pub mod Memory
 pub mod Kids
 pub mod Sharing
+pub mod Forking
 pub mod Picking
+pub mod Hands

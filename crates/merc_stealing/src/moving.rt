@@ -4,13 +4,14 @@ ghost use Rattle.std.specs.Vec.{vec_capacity};
 ghost use Rattle.merc_cell.specs.Ends.{consumer_name, producer_name};
 ghost use Rattle.merc_board.specs.Rights.{Rights, Due, Owed, waits_kept, signals_kept};
 ghost use Rattle.merc_stealing.specs.Beds.{IsNamed};
-ghost use Rattle.merc_stealing.specs.Lying.{due_of, owed_of};
+ghost use Rattle.merc_stealing.specs.Lying.{due_of, owed_of, rights, AreNamed};
 ghost use Rattle.merc_stealing.specs.Kids.{AreFor, HaveBerths, with_waits, with_signals};
 
-use crate::branch::{Held, HeldSignal, HeldWait};
+use crate::branch::{Held, HeldSignal, HeldWait, Hold};
 use crate::seat::Room;
 use crate::sharing::{child_to_signal, child_to_wait, give_signal, give_wait};
 use merc_board::{Handover, Load};
+use std::mem;
 
 // One of the parent's rights to wait moves into its child, or is kept.
 fn move_wait<M: Load, N: Room>(
@@ -94,4 +95,27 @@ pub(crate) fn move_signals<M: Load, N: Room>(
     for right in signals {
         move_signal::<M, N>(kids, right, kept, given);
     }
+}
+
+/// The parent's rights move into the children, or stay behind those to the fork's own cells.
+pub(crate) fn hand_out<M: Load, N: Room>(
+    kids: &mut Vec<Held<M>>,
+    hold: &mut Hold<M>,
+    behind: Vec<HeldWait<M>>,
+    kept: Vec<HeldSignal<M>>,
+    given: &[Handover],
+)
+    requires named { AreNamed N.table hold.old × All (λ right. IsNamed N.table (consumer_name right.end)) behind.items × (kept.items ≡ []) }
+    requires room { (length behind.items + length hold.old.waits.items ≤ vec_capacity behind) × (length hold.old.signals.items ≤ vec_capacity kept) }
+    requires kids { (room : ℕ) × (loads : List M) × (has : ℕ → Rights) × AreFor N.table (length hold.old.waits.items + (length hold.old.signals.items + room)) loads has kids.old.items }
+    ensures given { (room : ℕ) (loads : List M) (has : ℕ → Rights) → AreFor N.table (length hold.old.waits.items + (length hold.old.signals.items + room)) loads has kids.old.items → AreFor N.table room loads (with_signals given.now (rights hold.old).signals (with_waits given.now (rights hold.old).waits has)) kids.new.items }
+    ensures rights { rights hold.new ≡ record { waits = map due_of behind.items ++ waits_kept given.now (rights hold.old).waits; signals = signals_kept given.now (rights hold.old).signals } }
+    ensures same { (hold.new.berth ≡ hold.old.berth) × (hold.new.place ≡ hold.old.place) × (hold.new.link ≡ hold.old.link) }
+    ensures named { AreNamed N.table hold.new }
+    ensures berths { HaveBerths N.table kids.old.items → HaveBerths N.table kids.new.items }
+{
+    let waits = mem::replace(&mut hold.waits, behind);
+    move_waits::<M, N>(kids, waits, &mut hold.waits, given);
+    let signals = mem::replace(&mut hold.signals, kept);
+    move_signals::<M, N>(kids, signals, &mut hold.signals, given);
 }

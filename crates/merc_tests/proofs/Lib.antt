@@ -1,1 +1,3 @@
 mod HandingOver
+mod Stopping
+mod Coding

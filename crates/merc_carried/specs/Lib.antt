@@ -1,0 +1,5 @@
+pub mod Runs
+pub mod Sharing
+pub mod KeepsTo
+pub mod Plain
+pub mod PlainExamples

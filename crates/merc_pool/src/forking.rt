@@ -1,0 +1,113 @@
+//! Forks, and branches that are found.
+ghost use Rattle.std.specs.Prelude.{◌≡◌, ℕ, List, Some, IfOk};
+ghost use Rattle.merc_code.specs.declared.instruction.Instruction.TheVariants.{Fork};
+ghost use Rattle.merc_course.specs.Course.{AtFork as ForkMeeting, Courses, Meets, Reply, RunCourse};
+ghost use Rattle.merc_meaning.specs.Trace.{RunEnd};
+ghost use Rattle.merc_machine.specs.Coming.{MeetsAt};
+ghost use Rattle.merc_machine.specs.Running.{Means};
+ghost use Rattle.merc_machine.specs.declared.running.Stop.TheVariants.{AtFork};
+ghost use Rattle.merc_pool.specs.Forking.{AreChildren, IsFoundBranch, count_courses};
+ghost use Rattle.merc_pool.specs.Hands.{HasComeTo, HandIs, IsAllowed, IsAtWork};
+ghost use Rattle.merc_pool.specs.Shares.{AreShares};
+
+use crate::hand::Hand;
+use crate::load::{Asked, Carried};
+use crate::shared::{Shared, Worker};
+use merc_base::NoMemory;
+use merc_board::{Board, Branch, Woken};
+use merc_graded_tree::Site;
+use merc_machine::{Machine, Stop, Ticks};
+use merc_script::Outcome;
+use std::alloc::Global;
+use std::marker::PhantomData;
+use std::sync::Wait;
+
+/// Starts the conjuncts of a fork, and has the first one in hand.
+pub(crate) fn at_fork<'a, N: Asked + Send, B: Board<Carried<'a, N>>, R: Wait>(
+    rt: &R,
+    shared: &Shared<B>,
+    worker: &mut Worker<B::Seat>,
+    branch: Box<Branch<Carried<'a, N>, B::Hold>>,
+    site: Site,
+) -> Hand<Carried<'a, N>, B::Hold>
+    requires sites { AreShares N.sites shared.now.sites.items }
+    requires come { HasComeTo N.Asked B.Board shared.now.board worker.old.seat branch.value (AtFork site) }
+    requires allowed { IsAllowed N.Asked B.Board worker.old }
+    ensures { IsAtWork N.Asked B.Board shared.now.board worker.new result }
+{
+    let Some(share) = shared.sites.get(site.number) else {
+        return Hand::Ends(branch, Outcome::NoMemory);
+    };
+    let limit = branch.load.machine.left();
+    let Ok(loads) = start::<N>(shared.alloc, &branch.load.machine, site, share.children) else {
+        return Hand::Ends(branch, Outcome::NoMemory);
+    };
+    match shared.board.prepare(
+        rt,
+        shared.alloc,
+        &mut worker.seat,
+        loads,
+        branch,
+        limit,
+        &share.shared,
+        &share.given,
+    ) {
+        Ok(children) => {
+            let first = shared.board.fork(rt, &mut worker.seat, children);
+            shared.desk.tell(rt);
+            found::<N, B>(first)
+        }
+        Err((branch, NoMemory)) => Hand::Ends(branch, Outcome::NoMemory),
+    }
+}
+
+// What conjuncts carry that are forked.
+fn start<'a, N: Asked>(
+    alloc: Global,
+    machine: &Machine<'a>,
+    site: Site,
+    children: usize,
+) -> Result<Vec<Carried<'a, N>>, NoMemory>
+    requires at { MeetsAt machine.now (Fork site) }
+    requires forked { (forked : Courses RunEnd) × (next : Reply → RunCourse) × Means machine.now (Meets (ForkMeeting site.number) forked next) × (count_courses forked ≡ children) }
+    ensures { IfOk result (λ loads. (forked : Courses RunEnd) (next : Reply → RunCourse) → Means machine.now (Meets (ForkMeeting site.number) forked next) → count_courses forked ≡ children
+        → AreChildren machine.now forked loads.items) }
+{
+    let mut loads = Vec::new(alloc);
+    for number in 0..children {
+        let child = machine.child(alloc, site, number)?;
+        let enters = number_of(number)?;
+        loads.push(Carried {
+            machine: child,
+            stop: Stop::SliceOver,
+            given: 0,
+            reported: 0,
+            enters,
+            ticks: Ticks::new(),
+            asked: PhantomData,
+        })?;
+    }
+    Ok(loads)
+}
+
+// The number of a conjunct, counted from 1, of which so many come before.
+fn number_of(before: usize) -> Result<u32, NoMemory> {
+    match u32::try_from(before) {
+        Ok(before) => before.checked_add(1).ok_or(NoMemory),
+        Err(_) => Err(NoMemory),
+    }
+}
+
+/// What a worker has in hand that has found a branch.
+pub(crate) fn found<'a, N: Asked + Send, B: Board<Carried<'a, N>>>(
+    mut branch: Box<Branch<Carried<'a, N>, B::Hold>>,
+) -> Hand<Carried<'a, N>, B::Hold>
+    requires { (board : B) × (seat : B.Seat) × IsFoundBranch N.Asked B.Board board seat branch.value }
+    ensures { (board : B) (seat : B.Seat) → IsFoundBranch N.Asked B.Board board seat branch.value → HandIs N.Asked B.Board board seat result }
+{
+    match B::woken(&mut branch.hold) {
+        Woken::No => Hand::Runs(branch),
+        Woken::Value(value) => Hand::Given(branch, value),
+        Woken::Starved => Hand::Ends(branch, Outcome::Starved),
+    }
+}

@@ -1,0 +1,50 @@
+//! What a branch carries: a machine.
+
+use merc_board::Load;
+use merc_machine::{Machine, Stop, Ticks};
+use std::marker::PhantomData;
+
+/// What is asked: the script of the goal, what stands at the sites of the program, and the run that is told.
+pub trait Asked {
+    ghost use Rattle.std.specs.Prelude.{List};
+    ghost use Rattle.merc_meaning.specs.Trace.{Run};
+    ghost use Rattle.merc_rights.specs.declared.sites.SiteInfo.{SiteInfo};
+    ghost use Rattle.merc_script.specs.Script.{Script};
+
+    ghost root: { Script };
+
+    ghost sites: { List SiteInfo };
+
+    ghost run: { Run };
+}
+
+/// A machine on its way through what is asked.
+#[derive(Drop)]
+pub struct Carried<'a, N: Asked> {
+    pub machine: Machine<'a>,
+    /// The stop to which the machine came last; at a wait and at a fork it says which.
+    pub stop: Stop,
+    /// How many answers it has given. Only the root has answers.
+    pub given: u64,
+    /// How many of the steps that it has made its board was told.
+    pub reported: u64,
+    /// The number of the conjunct that it is until it has entered the gate, then 0.
+    pub enters: u32,
+    /// The steps that the root's machine has made. Those of others are counted by the workers that make them.
+    pub ticks: Ticks,
+    pub asked: PhantomData<N>,
+}
+
+impl<'a, N: Asked> Load for Carried<'a, N> {
+    ghost use Rattle.merc_pool.specs.Carrying.{StandsAt, AwaitsAt, ForkedAt, IsShown};
+
+    ghost root = { N.root };
+
+    ghost stands = { StandsAt N.sites N.root N.run };
+
+    ghost awaits = { AwaitsAt N.sites N.root N.run };
+
+    ghost forked = { ForkedAt N.sites N.root N.run };
+
+    ghost shows = { IsShown N.root };
+}

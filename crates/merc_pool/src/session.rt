@@ -1,0 +1,164 @@
+//! A session: the answers of what is asked, one after the other.
+ghost use Rattle.std.specs.Prelude.{◌≡◌, ◌<◌, ◌≤◌, ℕ, Bool, true, All, IfOk, IfSome, None, Some, vec_capacity, vec_len};
+ghost use Rattle.merc_machine.specs.declared.running.Stop.{Stop};
+ghost use Rattle.merc_meaning.specs.Counting.{counted};
+ghost use Rattle.merc_pool.specs.Asking.{Asks};
+ghost use Rattle.merc_pool.specs.Carrying.{IsPlain};
+ghost use Rattle.merc_pool.specs.Hands.{IsAllowed};
+ghost use Rattle.merc_pool.specs.Sessions.{AloneHand, BackHand, IsBack, IsHome, IsTallied, IsTalliedAlone, RootHand};
+ghost use Rattle.merc_pool.specs.Shares.{AreShares};
+ghost use Rattle.merc_pool.specs.Telling.{CountsNext, NextIs, Tells, given_after, last_of};
+ghost use Rattle.merc_pool.specs.Working.{AllAtWork, AllDone};
+
+use crate::desk::Desk;
+use crate::ending::came;
+use crate::hand::Hand;
+use crate::load::{Asked, Carried};
+use crate::next::Next;
+use crate::running::run_root_slice;
+use crate::shared::{Shared, Slot, Worker};
+use crate::shares::shares_of;
+use crate::telling::tell;
+use crate::turn::report;
+use crate::work::work_all;
+use merc_base::{Gate, NoMemory};
+use merc_board::{Board, Opened};
+use merc_load::Loaded;
+use merc_machine::{Machine, Stop, Ticks};
+use merc_plan::Plan;
+use std::alloc::Global;
+use std::marker::{Model, PhantomData};
+use std::mem;
+use std::sync::Wait;
+use std::thread::Threads;
+
+/// A session over a board. It is seen as the number of answers that it has given, the stop that it tells again, and the steps that
+/// it has counted of the root.
+#[derive(Drop)]
+pub struct Session<'a, N: Asked + Send, B: Board<Carried<'a, N>>> {
+    shared: Shared<B>,
+    // workers that have nothing in hand
+    others: Vec<Slot<Carried<'a, N>, B::Hold, B::Seat, (B::WaitRight, B::SignalRight, B::Children)>>,
+    // the worker that has the root
+    home: Option<Slot<Carried<'a, N>, B::Hold, B::Seat, (B::WaitRight, B::SignalRight, B::Children)>>,
+    over: Option<Stop>,
+    given: u64,
+    // the steps of the root, once it has ended
+    ticks: Ticks,
+}
+
+impl<'a, N: Asked + Send, B: Board<Carried<'a, N>>> Model for Session<'a, N, B> {
+    ghost use Rattle.std.specs.Prelude.{vec_capacity, vec_len};
+    ghost use Rattle.merc_pool.specs.Sessions.{IsSession, SessionState, steps_told};
+
+    ghost Value = { SessionState };
+
+    ghost view = { λ s. record { given = s.given; over = s.over; steps = steps_told s.ticks s.home } };
+
+    ghost invariant = { λ s. IsSession N.Asked B.Board s.shared s.others.items (vec_len s.others) (vec_capacity s.others) s.home s.over s.given };
+}
+
+impl<'a, N: Asked + Send, B: Board<Carried<'a, N>>> Session<'a, N, B> {
+    /// A session before its first answer, of at most so many steps. Nothing is run yet.
+    ///
+    /// # Errors
+    ///
+    /// `NoMemory` where memory was refused.
+    pub fn begin(
+        alloc: Global,
+        program: &'a Loaded,
+        plan: &Plan,
+        limit: u64,
+        board: B,
+    ) -> Result<Session<'a, N, B>, NoMemory>
+        requires closed { B.closed board }
+        requires plan { plan.now ≡ N.sites }
+        requires asks { Asks program.now N.sites limit N.root N.run }
+        ensures { IfOk result (λ session. session ≡ record { given = 0; over = None; steps = 0 }) }
+    {
+        todo!()
+    }
+
+    /// The next answer, or how the run ends: exactly the next of the run that is asked. Memory may be refused at any place.
+    /// Behind its end each further call answers the same.
+    pub fn next<G: Gate + Sync, R: Threads + Wait + Sync>(&mut self, rt: &R, gate: &G) -> Next
+        ensures next { self.old.over ≡ None → NextIs N.run self.old.given result }
+        ensures given { self.old.over ≡ None → self.new.given ≡ given_after self.old.given result }
+        ensures over { self.old.over ≡ None → self.new.over ≡ last_of result }
+        ensures counted { self.old.over ≡ None → IsPlain N.root → CountsNext N.run self.old.given self.new.steps result }
+        ensures again { (stop : Stop) → self.old.over ≡ Some stop → Tells stop result × (self.new ≡ self.old) }
+    {
+        todo!()
+    }
+
+    /// Ends a session, and counts the steps that its workers have made. Takes no memory.
+    pub fn close(self, into: &mut Ticks)
+        ensures { counted into.old self.steps ≤ into.new }
+    {
+        todo!()
+    }
+}
+
+// Runs the root on the calling thread up to its first fork, or its stop.
+fn alone<'a, N: Asked + Send, B: Board<Carried<'a, N>>, G: Gate, R: Wait>(
+    rt: &R,
+    gate: &G,
+    hand: Hand<Carried<'a, N>, B::Hold>,
+) -> Hand<Carried<'a, N>, B::Hold>
+    requires root { (board : B) × (seat : B.Seat) × RootHand N.Asked B.Board board seat hand }
+    ensures hand { (board : B) (seat : B.Seat) → RootHand N.Asked B.Board board seat hand → AloneHand N.Asked B.Board board seat result }
+    ensures tally { IsPlain N.root → IsTallied hand → IsTalliedAlone result }
+{
+    todo!()
+}
+
+// Runs the root up to its next stop: on the calling thread, and from its first fork on with all workers. The worker that has it.
+fn run_root<
+    'a,
+    N: Asked + Send,
+    B: Board<Carried<'a, N>>,
+    G: Gate + Sync,
+    R: Threads + Wait + Sync,
+>(
+    rt: &R,
+    shared: &Shared<B>,
+    gate: &G,
+    others: &mut Vec<Slot<Carried<'a, N>, B::Hold, B::Seat, (B::WaitRight, B::SignalRight, B::Children)>>,
+    home: Slot<Carried<'a, N>, B::Hold, B::Seat, (B::WaitRight, B::SignalRight, B::Children)>,
+) -> Option<Slot<Carried<'a, N>, B::Hold, B::Seat, (B::WaitRight, B::SignalRight, B::Children)>>
+    requires sites { AreShares N.sites shared.now.sites.items }
+    requires others { AllAtWork N.Asked B.Board shared.now.board others.old.items }
+    requires room { vec_len others.old < vec_capacity others.old }
+    requires root { RootHand N.Asked B.Board shared.now.board home.worker.seat home.hand }
+    requires allowed { IsAllowed N.Asked B.Board home.worker }
+    ensures others { AllAtWork N.Asked B.Board shared.now.board others.new.items }
+    ensures room { IfSome result (λ _. vec_len others.new < vec_capacity others.new) }
+    ensures back { IfSome result (λ slot. IsBack N.Asked B.Board shared.now.board slot) }
+    ensures tally { IfSome result (λ slot. IsPlain N.root → IsTallied home.hand → IsTallied slot.hand) }
+{
+    todo!()
+}
+
+// Takes the worker out that has the root.
+fn take_back<'a, N: Asked + Send, B: Board<Carried<'a, N>>>(
+    slots: &mut Vec<Slot<Carried<'a, N>, B::Hold, B::Seat, (B::WaitRight, B::SignalRight, B::Children)>>,
+) -> Option<Slot<Carried<'a, N>, B::Hold, B::Seat, (B::WaitRight, B::SignalRight, B::Children)>>
+    requires { (board : B) × AllDone N.Asked B.Board board slots.old.items }
+    ensures others { (board : B) → AllDone N.Asked B.Board board slots.old.items → AllAtWork N.Asked B.Board board slots.new.items }
+    ensures room { IfSome result (λ _. (vec_len slots.new < vec_len slots.old) × (vec_capacity slots.new ≡ vec_capacity slots.old)) }
+    ensures back { IfSome result (λ slot. (board : B) → AllDone N.Asked B.Board board slots.old.items → IsBack N.Asked B.Board board slot) }
+{
+    todo!()
+}
+
+// Slots for workers that have nothing in hand, with room for one more.
+fn idle_slots<'a, N: Asked + Send, B: Board<Carried<'a, N>>>(
+    alloc: Global,
+    seats: Vec<B::Seat>,
+) -> Result<Vec<Slot<Carried<'a, N>, B::Hold, B::Seat, (B::WaitRight, B::SignalRight, B::Children)>>, NoMemory>
+    requires { (board : B) × All (B.free board) seats.items }
+    ensures room { IfOk result (λ slots. vec_len slots < vec_capacity slots) }
+    ensures work { IfOk result (λ slots. (board : B) → All (B.free board) seats.items → AllAtWork N.Asked B.Board board slots.items) }
+{
+    todo!()
+}

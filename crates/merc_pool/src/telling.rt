@@ -1,0 +1,79 @@
+//! What the stops of the root say to the asker.
+ghost use Rattle.std.specs.Prelude.{◌≡◌, ℕ, suc, Some, MatchOption, slice_get};
+ghost use Rattle.merc_carried.specs.Runs.{answers_of};
+ghost use Rattle.merc_meaning.specs.Trace.{Env};
+ghost use Rattle.merc_pool.specs.Carrying.{IsPlain};
+ghost use Rattle.merc_pool.specs.Hands.{IsAtAnswer};
+ghost use Rattle.merc_pool.specs.Sessions.{IsBack, IsTallied, IsToldHome, steps_of};
+ghost use Rattle.merc_pool.specs.Telling.{CountsNext, EndSays, NextIs, ShowsAnswer, given_after};
+
+use crate::hand::Hand;
+use crate::load::{Asked, Carried};
+use crate::next::Next;
+use crate::shared::Slot;
+use merc_board::{Board, Branch};
+use merc_machine::{Stop, Ticks};
+use merc_value::Block;
+use std::alloc::Global;
+use std::mem;
+
+/// What a stop of the root says to the asker, to whom so many answers were given. Behind an answer the worker keeps the root
+/// in hand; else the steps of the root are put by.
+pub(crate) fn tell<'a, N: Asked + Send, B: Board<Carried<'a, N>>>(
+    alloc: Global,
+    given: &mut u64,
+    ticks: &mut Ticks,
+    slot: &mut Slot<Carried<'a, N>, B::Hold, B::Seat, (B::WaitRight, B::SignalRight, B::Children)>,
+) -> Next
+    requires { (board : B) × IsBack N.Asked B.Board board slot.old }
+    ensures next { NextIs N.run given.old result }
+    ensures given { given.new ≡ given_after given.old result }
+    ensures home { (board : B) → IsBack N.Asked B.Board board slot.old → IsToldHome N.Asked B.Board board given.old result slot.new }
+    ensures tallied { IsPlain N.root → IsTallied slot.old.hand → IsTallied slot.new.hand }
+    ensures counted { IsPlain N.root → IsTallied slot.old.hand → CountsNext N.run given.old (steps_of ticks.new slot.new.hand) result }
+{
+    match mem::replace(&mut slot.hand, Hand::Empty) {
+        Hand::Came(branch, Stop::Answer) => todo!(),
+        Hand::Came(mut branch, stop) => {
+            *ticks = mem::replace(&mut branch.load.ticks, Ticks::new());
+            end_told(*given, branch.load.given, stop)
+        }
+        _ => Next::NoMemory,
+    }
+}
+
+// The answer at which the root stands, if it is the one behind so many, which then are one more.
+fn told_answer<'a, N: Asked + Send, B: Board<Carried<'a, N>>>(
+    alloc: Global,
+    given: &mut u64,
+    branch: &Branch<Carried<'a, N>, B::Hold>,
+) -> Option<Block>
+    requires { (board : B) × (seat : B.Seat) × IsAtAnswer N.Asked B.Board board seat branch.now }
+    ensures { MatchOption result (given.new ≡ given.old)
+        (λ block. ((values : Env) × (slice_get (answers_of N.run) given.old ≡ Some values) × ShowsAnswer values block) × (given.new ≡ suc given.old) × (branch.now.load.given ≡ given.new)) }
+{
+    if given.checked_add(1) != Some(branch.load.given) {
+        return None;
+    }
+    let Ok(block) = branch.load.machine.answer(alloc) else {
+        return None;
+    };
+    *given = branch.load.given;
+    Some(block)
+}
+
+// What the end of the root says, which has given so many answers, where so many were told.
+fn end_told(told: u64, given: u64, stop: Stop) -> Next
+    ensures next { EndSays told given stop result }
+    ensures given { given_after told result ≡ told }
+{
+    if told != given {
+        return Next::NoMemory;
+    }
+    match stop {
+        Stop::Ended => Next::Done,
+        Stop::Raised(text) => Next::Raised(text),
+        Stop::LimitPassed => Next::LimitPassed,
+        _ => Next::NoMemory,
+    }
+}

@@ -1,0 +1,11 @@
+use Rattle.std.proofs.Common.{ℕ, length}
+use Rattle.std.specs.List.{All}
+use Rattle.merc_cell.specs.Ends.{producer_name}
+use Rattle.merc_stealing.specs.Beds.{IsNamed}
+use Rattle.merc_stealing.proofs.preparing.take_signals.Given as goal
+
+abbrev pub invariant-loop-right : goal.invariant-loop-right
+invariant-loop-right g l = All (λ right. IsNamed g.N.Room.table (producer_name right.end)) l.from.items × All (λ right. IsNamed g.N.Room.table (producer_name right.end)) l.to.items
+
+abbrev pub decreases-loop-right : goal.decreases-loop-right
+decreases-loop-right g l = length l.from.items
