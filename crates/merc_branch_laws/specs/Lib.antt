@@ -1,0 +1,5 @@
+pub mod Dealing
+pub mod Facing
+pub mod BranchLaws
+pub mod DealingExamples
+pub mod FacingExamples
