@@ -123,23 +123,26 @@ fn planned(
 ) -> Result<(Plan, Loaded), NoMemory>
     ensures { IfOk result (λ planned. (codes : Codes) × (query : Code) × IsProgram planned.1 codes query × ((limit : ℕ) → (course : RunCourse) × YieldsLean codes (start query limit) course)) }
 {
-    let Some(goal) = trees.get(0) else {
-        return Err(NoMemory);
-    };
-    let Split {
-        trees: procedures,
-        sites,
-    } = Split::of(alloc, checked.trees())?;
-    let mut sites = sites.into_vec();
-    let mut goals = Nodes::new(alloc);
-    split(alloc, &goal, &mut goals, &mut sites)?;
-    let all = Split {
-        trees: procedures,
-        sites: Sequence::from_vec(sites),
-    };
+    let (all, goals) = split_with(alloc, checked.trees(), trees)?;
     let plan = Plan::of(alloc, &all)?;
     let program = loaded(alloc, checked, &all.trees, &goals, answers)?;
     Ok((plan, program))
+}
+
+// The split trees of procedures, and of a goal whose tree is alone in its list, with the sites of both.
+fn split_with(alloc: Global, procedures: &Nodes, goals: &Nodes) -> Result<(Split, Nodes), NoMemory>
+    ensures procedures { IfOk result (λ both. both.0.trees ≡ all_split 0 procedures.now) }
+    ensures goal { IfOk result (λ both. (goal : Node) × (both.1 ≡ split (length (all_sites procedures.now)) goal ∷ [])) }
+{
+    let Some(goal) = goals.get(0) else {
+        return Err(NoMemory);
+    };
+    let Split { trees, sites } = Split::of(alloc, procedures)?;
+    let mut sites = sites.into_vec();
+    let mut split_goals = Nodes::new(alloc);
+    split(alloc, &goal, &mut split_goals, &mut sites)?;
+    let sites = Sequence::from_vec(sites);
+    Ok((Split { trees, sites }, split_goals))
 }
 
 // The code of split trees, and of a split goal whose tree is alone in its list.

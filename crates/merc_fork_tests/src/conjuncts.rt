@@ -41,6 +41,159 @@ sum(N, S) :- ( if N =< 0 then S = 0 else f(N, A) & ( sum(N - 1, B), S = A + B ) 
 pick(L, Y) :- f(1, A) & ( L = [], Y = 0 ; L = [H | T], g(A, B), Y = B + H ).
 ";
 
+// A goal, the most steps that it may take, and the lines to which it comes then.
+#[derive(Clone, Copy)]
+struct Row {
+    goal: &'static [u8],
+    limit: u64,
+    lines: &'static [u8],
+}
+
+// Waits and signals in conjunctions, in arms of a switch and in parts of a condition, and behind what is none of these. An arm that
+// does not use the value leaves it in its cell.
+const VALUES: [Row; 10] = [
+    Row {
+        goal: b"( X = 1, fail ; X = 2 ) & Y = X + 1",
+        limit: 100,
+        lines: b"X = 2, Y = 3\nsolutions 1\n",
+    },
+    Row {
+        goal: b"f(1, A) & f(A, B) & g(A, C) & D = A + B",
+        limit: 100,
+        lines: b"A = 2, B = 3, C = 20, D = 5\nsolutions 1\n",
+    },
+    Row {
+        goal: b"L = [1, 2] & ( L = [H | T], f(H, A) )",
+        limit: 100,
+        lines: b"L = [1, 2], H = 1, T = [2], A = 2\nsolutions 1\n",
+    },
+    Row {
+        goal: b"( Y = 1, X = Y ) & f(X, A)",
+        limit: 100,
+        lines: b"Y = 1, X = 1, A = 2\nsolutions 1\n",
+    },
+    Row {
+        goal: b"some [Y] ( Y = 1, X = Y ) & f(X, A)",
+        limit: 100,
+        lines: b"X = 1, A = 2\nsolutions 1\n",
+    },
+    Row {
+        goal: b"( X = 1, fail ; X = 2 ) & f(X, A)",
+        limit: 100,
+        lines: b"X = 2, A = 3\nsolutions 1\n",
+    },
+    Row {
+        goal: b"X = 1 & ( if f(5, 7) then f(X, A) else f(5, A) ), f(X, B)",
+        limit: 100,
+        lines: b"X = 1, A = 6, B = 2\nsolutions 1\n",
+    },
+    Row {
+        goal: b"X = 1 & ( if f(5, 6) then f(X, A) else f(5, A) ), f(X, B)",
+        limit: 100,
+        lines: b"X = 1, A = 2, B = 2\nsolutions 1\n",
+    },
+    Row {
+        goal: b"pick([], Y)",
+        limit: 100,
+        lines: b"Y = 0\nsolutions 1\n",
+    },
+    Row {
+        goal: b"pick([5], Y) & pick([Y], Z)",
+        limit: 100,
+        lines: b"Y = 25, Z = 45\nsolutions 1\n",
+    },
+];
+
+// Behind an answer the machine goes back to the choice point before its fork, and forks again.
+const AGAIN: [Row; 1] = [Row {
+    goal: b"member(Z, [1, 2]), ( f(Z, A) & g(A, B) )",
+    limit: 100,
+    lines: b"Z = 1, A = 2, B = 20\nZ = 2, A = 3, B = 30\nsolutions 2\n",
+}];
+
+// In the first goal the rights to wait for A and to signal B and C move into the inner conjuncts; in the second one, whose
+// conjuncts stand in a procedure, the right to wait for A does.
+const MOVES: [Row; 4] = [
+    Row {
+        goal: b"f(1, A) & ( g(A, B) & f(B, C) )",
+        limit: 100,
+        lines: b"A = 2, B = 20, C = 21\nsolutions 1\n",
+    },
+    Row {
+        goal: b"deep(1, D)",
+        limit: 100,
+        lines: b"D = 14\nsolutions 1\n",
+    },
+    Row {
+        goal: b"sum(3, S)",
+        limit: 100,
+        lines: b"S = 9\nsolutions 1\n",
+    },
+    Row {
+        goal: b"deep(1, D) & sum(D, S)",
+        limit: 100,
+        lines: b"D = 14, S = 119\nsolutions 1\n",
+    },
+];
+
+// The first of the ends that are not good decides. In the third goal a value comes, in the last two none does.
+const ENDS: [Row; 6] = [
+    Row {
+        goal: b"error(\"a\") & error(\"b\")",
+        limit: 100,
+        lines: b"uncaught exception: a\n",
+    },
+    Row {
+        goal: b"late(3, A) & spin(0, B)",
+        limit: 100,
+        lines: b"uncaught exception: late\n",
+    },
+    Row {
+        goal: b"spin(0, A) & error(\"b\")",
+        limit: 100,
+        lines: b"step limit passed\n",
+    },
+    Row {
+        goal: b"( f(1, A), error(\"x\") ) & g(A, B)",
+        limit: 100,
+        lines: b"uncaught exception: x\n",
+    },
+    Row {
+        goal: b"late(3, A) & f(A, B)",
+        limit: 100,
+        lines: b"uncaught exception: late\n",
+    },
+    Row {
+        goal: b"spin(0, A) & f(A, B)",
+        limit: 100,
+        lines: b"step limit passed\n",
+    },
+];
+
+// The steps of conjuncts are added up from the left: 60 and 40 do not pass a limit of 100, one more does.
+const SUMS: [Row; 4] = [
+    Row {
+        goal: b"count(60, A) & late(40, B)",
+        limit: 100,
+        lines: b"uncaught exception: late\n",
+    },
+    Row {
+        goal: b"count(60, A) & late(41, B)",
+        limit: 100,
+        lines: b"step limit passed\n",
+    },
+    Row {
+        goal: b"count(60, A) & mix(A, 40, B)",
+        limit: 101,
+        lines: b"A = 0, B = 0\nsolutions 1\n",
+    },
+    Row {
+        goal: b"count(60, A) & mix(A, 40, B)",
+        limit: 100,
+        lines: b"step limit passed\n",
+    },
+];
+
 // Whether a goal over the module comes to these lines in at most so many steps.
 fn comes_to(alloc: Global, goal: &[u8], limit: u64, lines: &[u8]) -> Result<bool, Fail> {
     let asked = asked(alloc, ROWS, goal)?;
@@ -64,217 +217,53 @@ fn steps_of(alloc: Global, goal: &[u8], limit: u64) -> Result<(u64, u64), Fail> 
     Ok(steps)
 }
 
+// The number of the first row that does not come to its lines.
+fn first_wrong(alloc: Global, rows: &[Row]) -> Result<Option<usize>, Fail> {
+    for (number, row) in rows.iter().enumerate() {
+        if !comes_to(alloc, row.goal, row.limit, row.lines)? {
+            return Ok(Some(number));
+        }
+    }
+    Ok(None)
+}
+
 #[test]
 fn values_go_from_one_conjunct_to_another(rt: HostRuntime) -> Result<(), Fail> {
-    let alloc = rt.alloc();
-    assert!(rt;
-        comes_to(
-            alloc,
-            b"( X = 1, fail ; X = 2 ) & Y = X + 1",
-            100,
-            b"X = 2, Y = 3\nsolutions 1\n"
-        )?
-    );
-    assert!(rt;
-        comes_to(
-            alloc,
-            b"f(1, A) & f(A, B) & g(A, C) & D = A + B",
-            100,
-            b"A = 2, B = 3, C = 20, D = 5\nsolutions 1\n"
-        )?
-    );
-    assert!(rt;
-        comes_to(
-            alloc,
-            b"L = [1, 2] & ( L = [H | T], f(H, A) )",
-            100,
-            b"L = [1, 2], H = 1, T = [2], A = 2\nsolutions 1\n"
-        )?
-    );
+    assert_eq!(rt; first_wrong(rt.alloc(), &VALUES)?, None);
     Ok(())
 }
 
-// Waits and signals in conjunctions, in arms of a switch and in parts of a condition, and behind what is none of these. An arm that
-// does not use the value leaves it in its cell.
-#[test]
-fn waits_and_signals_stand_where_values_are_used(rt: HostRuntime) -> Result<(), Fail> {
-    let alloc = rt.alloc();
-    assert!(rt;
-        comes_to(
-            alloc,
-            b"( Y = 1, X = Y ) & f(X, A)",
-            100,
-            b"Y = 1, X = 1, A = 2\nsolutions 1\n"
-        )?
-    );
-    assert!(rt;
-        comes_to(
-            alloc,
-            b"some [Y] ( Y = 1, X = Y ) & f(X, A)",
-            100,
-            b"X = 1, A = 2\nsolutions 1\n"
-        )?
-    );
-    assert!(rt;
-        comes_to(
-            alloc,
-            b"( X = 1, fail ; X = 2 ) & f(X, A)",
-            100,
-            b"X = 2, A = 3\nsolutions 1\n"
-        )?
-    );
-    assert!(rt;
-        comes_to(
-            alloc,
-            b"X = 1 & ( if f(5, 7) then f(X, A) else f(5, A) ), f(X, B)",
-            100,
-            b"X = 1, A = 6, B = 2\nsolutions 1\n"
-        )?
-    );
-    assert!(rt;
-        comes_to(
-            alloc,
-            b"X = 1 & ( if f(5, 6) then f(X, A) else f(5, A) ), f(X, B)",
-            100,
-            b"X = 1, A = 2, B = 2\nsolutions 1\n"
-        )?
-    );
-    assert!(rt; comes_to(alloc, b"pick([], Y)", 100, b"Y = 0\nsolutions 1\n")?);
-    assert!(rt;
-        comes_to(
-            alloc,
-            b"pick([5], Y) & pick([Y], Z)",
-            100,
-            b"Y = 25, Z = 45\nsolutions 1\n"
-        )?
-    );
-    Ok(())
-}
-
-// Behind an answer the machine goes back to the choice point before its fork, and forks again.
 #[test]
 fn a_fork_is_come_to_again(rt: HostRuntime) -> Result<(), Fail> {
-    let goal = b"member(Z, [1, 2]), ( f(Z, A) & g(A, B) )";
-    let lines = b"Z = 1, A = 2, B = 20\nZ = 2, A = 3, B = 30\nsolutions 2\n";
-    assert!(rt; comes_to(rt.alloc(), goal, 100, lines)?);
+    assert_eq!(rt; first_wrong(rt.alloc(), &AGAIN)?, None);
     Ok(())
 }
 
-// In the first goal the rights to wait for A and to signal B and C move into the inner conjuncts; in the second one, whose
-// conjuncts stand in a procedure, the right to wait for A does.
 #[test]
 fn rights_move_into_inner_conjuncts(rt: HostRuntime) -> Result<(), Fail> {
-    let alloc = rt.alloc();
-    assert!(rt;
-        comes_to(
-            alloc,
-            b"f(1, A) & ( g(A, B) & f(B, C) )",
-            100,
-            b"A = 2, B = 20, C = 21\nsolutions 1\n"
-        )?
-    );
-    assert!(rt; comes_to(alloc, b"deep(1, D)", 100, b"D = 14\nsolutions 1\n")?);
-    assert!(rt; comes_to(alloc, b"sum(3, S)", 100, b"S = 9\nsolutions 1\n")?);
-    assert!(rt;
-        comes_to(
-            alloc,
-            b"deep(1, D) & sum(D, S)",
-            100,
-            b"D = 14, S = 119\nsolutions 1\n"
-        )?
-    );
+    assert_eq!(rt; first_wrong(rt.alloc(), &MOVES)?, None);
     Ok(())
 }
 
-// The first of the ends that are not good decides.
 #[test]
 fn the_leftmost_end_decides(rt: HostRuntime) -> Result<(), Fail> {
-    let alloc = rt.alloc();
-    assert!(rt;
-        comes_to(
-            alloc,
-            b"error(\"a\") & error(\"b\")",
-            100,
-            b"uncaught exception: a\n"
-        )?
-    );
-    assert!(rt;
-        comes_to(
-            alloc,
-            b"late(3, A) & spin(0, B)",
-            100,
-            b"uncaught exception: late\n"
-        )?
-    );
-    assert!(rt;
-        comes_to(
-            alloc,
-            b"spin(0, A) & error(\"b\")",
-            100,
-            b"step limit passed\n"
-        )?
-    );
-    // a value that came, and values that do not come
-    assert!(rt;
-        comes_to(
-            alloc,
-            b"( f(1, A), error(\"x\") ) & g(A, B)",
-            100,
-            b"uncaught exception: x\n"
-        )?
-    );
-    assert!(rt;
-        comes_to(
-            alloc,
-            b"late(3, A) & f(A, B)",
-            100,
-            b"uncaught exception: late\n"
-        )?
-    );
-    assert!(rt; comes_to(alloc, b"spin(0, A) & f(A, B)", 100, b"step limit passed\n")?);
+    assert_eq!(rt; first_wrong(rt.alloc(), &ENDS)?, None);
     Ok(())
 }
 
-// The steps of conjuncts are added up from the left: 60 and 40 do not pass a limit of 100, one more does.
+#[test]
+fn a_sum_of_steps_passes_the_limit(rt: HostRuntime) -> Result<(), Fail> {
+    assert_eq!(rt; first_wrong(rt.alloc(), &SUMS)?, None);
+    Ok(())
+}
+
+// In the last goal each conjunct may make as many steps as are left at the fork, and what the second one makes does not count.
 #[test]
 fn steps_are_added_up(rt: HostRuntime) -> Result<(), Fail> {
     let alloc = rt.alloc();
-    assert!(rt;
-        comes_to(
-            alloc,
-            b"count(60, A) & late(40, B)",
-            100,
-            b"uncaught exception: late\n"
-        )?
-    );
-    assert!(rt;
-        comes_to(
-            alloc,
-            b"count(60, A) & late(41, B)",
-            100,
-            b"step limit passed\n"
-        )?
-    );
-    assert!(rt;
-        comes_to(
-            alloc,
-            b"count(60, A) & mix(A, 40, B)",
-            101,
-            b"A = 0, B = 0\nsolutions 1\n"
-        )?
-    );
-    assert!(rt;
-        comes_to(
-            alloc,
-            b"count(60, A) & mix(A, 40, B)",
-            100,
-            b"step limit passed\n"
-        )?
-    );
     assert!(rt; steps_of(alloc, b"count(60, A) & mix(A, 40, B)", 101)? == (101, 101));
     assert!(rt; steps_of(alloc, b"deep(1, D)", 100)? == (5, 5));
     assert!(rt; steps_of(alloc, b"sum(3, S)", 100)? == (7, 7));
-    // each conjunct may make as many steps as are left at the fork, and what it makes beyond the join's limit is made in vain
     assert!(rt; steps_of(alloc, b"late(3, A) & spin(0, B)", 100)? == (3, 103));
     Ok(())
 }
