@@ -2,7 +2,7 @@ use Rattle.std.proofs.Common.{◌+◌, ◌*◌, ◌≤◌}
 use Rattle.merc_course.specs.Course.{RunCourse}
 use Rattle.merc_machine.specs.Coming.{all_left}
 use Rattle.merc_machine.specs.Running.{Means, steps_in}
-use Rattle.merc_tests.proofs.driving.+going.Given as goal
+use Rattle.merc_fork_tests.proofs.driving.+going.Given as goal
 
 -- A call's measure is five times the depth up to which forks may be nested, and the rank of the function.
 

@@ -1,5 +1,5 @@
 use Rattle.std.proofs.Common.{arith}
-use Rattle.merc_tests.proofs.conjuncts.conjuncts_in_threads.Goals as goal
+use Rattle.merc_fork_tests.proofs.conjuncts.conjuncts_in_threads.Goals as goal
 
 pub steps_in_threads-requires-clause-one : goal.steps_in_threads-requires-clause-one
 steps_in_threads-requires-clause-one g c =

@@ -1,8 +1,8 @@
 use Rattle.std.proofs.Common.{◌∙◌, ap, sym, length}
 use Rattle.std.proofs.lemmas.Result.{on_ok_weaker}
 use Rattle.merc_course.specs.Course.{Given}
-use Rattle.merc_tests.proofs.Stopping.{one-root}
-use Rattle.merc_tests.proofs.driving.give.Goals as goal
+use Rattle.merc_fork_tests.proofs.Stopping.{one-root}
+use Rattle.merc_fork_tests.proofs.driving.give.Goals as goal
 
 pub returns-clause-goes_on : goal.returns-clause-goes_on
 returns-clause-goes_on c =

@@ -1,7 +1,7 @@
 use Rattle.std.proofs.lemmas.Result.{IfOk-weaker}
 use Rattle.merc_code.specs.ProgramCode.{codes_in}
-use Rattle.merc_tests.proofs.Coding.{has-course}
-use Rattle.merc_tests.proofs.asking.loaded.Goals as goal
+use Rattle.merc_fork_tests.proofs.Coding.{has-course}
+use Rattle.merc_fork_tests.proofs.asking.loaded.Goals as goal
 
 pub returns : goal.returns
 returns c =

@@ -1,7 +1,7 @@
 use Rattle.std.proofs.Common.{arith, ap, Some}
 use Rattle.std.proofs.lemmas.Result.{IfOk-weaker}
-use Rattle.merc_tests.proofs.Stopping.{answered, left-behind}
-use Rattle.merc_tests.proofs.driving.+going.Goals as goal
+use Rattle.merc_fork_tests.proofs.Stopping.{answered, left-behind}
+use Rattle.merc_fork_tests.proofs.driving.+going.Goals as goal
 
 pub go_on-run_fork-requires : goal.go_on-run_fork-requires
 go_on-run_fork-requires t c =

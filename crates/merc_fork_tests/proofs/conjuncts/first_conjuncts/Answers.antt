@@ -1,5 +1,5 @@
 use Rattle.std.proofs.Common.{arith}
-use Rattle.merc_tests.proofs.conjuncts.first_conjuncts.Goals as goal
+use Rattle.merc_fork_tests.proofs.conjuncts.first_conjuncts.Goals as goal
 
 pub run-requires-clause-means : goal.run-requires-clause-means
 run-requires-clause-means g c = λ none.

@@ -1,4 +1,4 @@
-use Rattle.merc_tests.proofs.asking.told.Goals as goal
+use Rattle.merc_fork_tests.proofs.asking.told.Goals as goal
 
 pub told_of-told-requires-clause-means : goal.told_of-told-requires-clause-means
 told_of-told-requires-clause-means c =

@@ -1,5 +1,5 @@
 use Rattle.std.proofs.Common.{arith}
-use Rattle.merc_tests.proofs.conjuncts.steps_before_meeting.Goals as goal
+use Rattle.merc_fork_tests.proofs.conjuncts.steps_before_meeting.Goals as goal
 
 pub used-requires : goal.used-requires
 used-requires c = omega (arith, (c.in-AtWait.ensures.ran c.requires.means.0 c.requires.means.1).ran.spends, c.requires.fits)

@@ -37,6 +37,8 @@ mix(A, N, B) :- count(N, C), B = A + C.
 deep(X, D) :- f(X, A) & ( g(X, B), ( f(A, C) & f(B, E) ), D = C + E ).
 :- pred sum(int::in, int::out) is det.
 sum(N, S) :- ( if N =< 0 then S = 0 else f(N, A) & ( sum(N - 1, B), S = A + B ) ).
+:- pred pick(list(int)::in, int::out) is det.
+pick(L, Y) :- f(1, A) & ( L = [], Y = 0 ; L = [H | T], g(A, B), Y = B + H ).
 ";
 
 // Whether a goal over the module comes to these lines in at most so many steps.
@@ -87,6 +89,63 @@ fn values_go_from_one_conjunct_to_another(rt: HostRuntime) -> Result<(), Fail> {
             b"L = [1, 2] & ( L = [H | T], f(H, A) )",
             100,
             b"L = [1, 2], H = 1, T = [2], A = 2\nsolutions 1\n"
+        )?
+    );
+    Ok(())
+}
+
+// Waits and signals in conjunctions, in arms of a switch and in parts of a condition, and behind what is none of these. An arm that
+// does not use the value leaves it in its cell.
+#[test]
+fn waits_and_signals_stand_where_values_are_used(rt: HostRuntime) -> Result<(), Fail> {
+    let alloc = rt.alloc();
+    assert!(rt;
+        comes_to(
+            alloc,
+            b"( Y = 1, X = Y ) & f(X, A)",
+            100,
+            b"Y = 1, X = 1, A = 2\nsolutions 1\n"
+        )?
+    );
+    assert!(rt;
+        comes_to(
+            alloc,
+            b"some [Y] ( Y = 1, X = Y ) & f(X, A)",
+            100,
+            b"X = 1, A = 2\nsolutions 1\n"
+        )?
+    );
+    assert!(rt;
+        comes_to(
+            alloc,
+            b"( X = 1, fail ; X = 2 ) & f(X, A)",
+            100,
+            b"X = 2, A = 3\nsolutions 1\n"
+        )?
+    );
+    assert!(rt;
+        comes_to(
+            alloc,
+            b"X = 1 & ( if f(5, 7) then f(X, A) else f(5, A) ), f(X, B)",
+            100,
+            b"X = 1, A = 6, B = 2\nsolutions 1\n"
+        )?
+    );
+    assert!(rt;
+        comes_to(
+            alloc,
+            b"X = 1 & ( if f(5, 6) then f(X, A) else f(5, A) ), f(X, B)",
+            100,
+            b"X = 1, A = 2, B = 2\nsolutions 1\n"
+        )?
+    );
+    assert!(rt; comes_to(alloc, b"pick([], Y)", 100, b"Y = 0\nsolutions 1\n")?);
+    assert!(rt;
+        comes_to(
+            alloc,
+            b"pick([5], Y) & pick([Y], Z)",
+            100,
+            b"Y = 25, Z = 45\nsolutions 1\n"
         )?
     );
     Ok(())
@@ -155,7 +214,15 @@ fn the_leftmost_end_decides(rt: HostRuntime) -> Result<(), Fail> {
             b"step limit passed\n"
         )?
     );
-    // a value that does not come
+    // a value that came, and values that do not come
+    assert!(rt;
+        comes_to(
+            alloc,
+            b"( f(1, A), error(\"x\") ) & g(A, B)",
+            100,
+            b"uncaught exception: x\n"
+        )?
+    );
     assert!(rt;
         comes_to(
             alloc,
