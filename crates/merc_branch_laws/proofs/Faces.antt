@@ -1,17 +1,18 @@
 -- What one step gives to a branch of which the rights find its cells.
-use Rattle.std.proofs.Common.{◌≡◌, refl, sym, ◌∙◌, subst, ℕ, zero, suc, ◌+◌, ◌-◌, arith, List, Option, Some, None}
+use Rattle.std.proofs.Common.{◌≡◌, refl, ap, sym, ◌∙◌, subst, ℕ, zero, suc, ◌+◌, ◌-◌, arith, List, Option, Some, None}
 use Rattle.merc_value.specs.Value.{Value}
 use Rattle.merc_meaning.specs.Trace.{RunEnd}
+use Rattle.merc_script.specs.declared.outcome.Outcome.{Outcome}
 use Rattle.merc_script.specs.declared.outcome.Outcome.TheVariants.{Ok as Fine, Raise, Limit, Starved}
-use Rattle.merc_script.specs.Script.{Script, Ends, Children}
+use Rattle.merc_script.specs.Script.{Script, Ends, Children, Cell}
 use Rattle.merc_script.specs.Places.{child_at}
 use Rattle.merc_course.specs.Course.{RunCourse, Courses, Given, Joined}
 use Rattle.merc_rights.specs.declared.sites.SiteInfo.{SiteInfo}
-use Rattle.merc_board.specs.Rights.{Rights, child_rights, parent_rights}
-use Rattle.merc_board.specs.Boarding.{numbers_of}
-use Rattle.merc_plan.specs.Branches.{Plan}
 use Rattle.merc_plan.specs.Stands.{done as stands_done, raised as stands_raised, limited as stands_limited, ticks as stands_ticks, answers as stands_answers, waits as stands_waits, starves as stands_starves, hands as stands_hands, goes_on as stands_on, ends_there as stands_there, StandAll, stand_none, stand_more}
-use Rattle.merc_branch_laws.specs.Dealing.{shared_of, handovers_of, Deals, done, raised, limited, ticks, answers, waits, starves, hands, goes_on, ends_there, DealAll, deal_none, deal_more}
+use Rattle.merc_board.specs.Rights.{Rights}
+use Rattle.merc_carried.specs.Sharing.{rights_of_child, rights_behind}
+use Rattle.merc_carried.specs.KeepsTo.{with_waits, with_signals}
+use Rattle.merc_branch_laws.specs.Dealing.{Deals, done, raised, limited, ticks, answers, waits, starves, hands, goes_on, ends_there, DealAll, deal_none, deal_more}
 use Rattle.merc_branch_laws.specs.Facing.{course_at, EndsAreFaced, TicksAreFaced, AnswersAreFaced, WaitsAreFaced, SignalsAreFaced, ForksAreFaced, ChildrenAreFaced}
 use Rattle.merc_branch_laws.specs.BranchLaws.{DealsStand}
 
@@ -22,29 +23,29 @@ fine_same : (m n : ℕ) → Fine m ≡ Fine n → m ≡ n
 fine_same m n e = cc
 
 pub ends_faced : EndsAreFaced
-ends_faced plan values rights left made end script (done _ _ _) = (Fine made, refl, refl)
-ends_faced plan values rights left made end script (raised _ _ _ text) = (Raise text made, refl, refl)
-ends_faced plan values rights left made end script (limited _ _ _) = (Limit, refl, refl)
+ends_faced sites values rights left made end script (done _ _ _) = (Fine made, refl, refl)
+ends_faced sites values rights left made end script (raised _ _ _ text) = (Raise text made, refl, refl)
+ends_faced sites values rights left made end script (limited _ _ _) = (Limit, refl, refl)
 
 pub ticks_faced : TicksAreFaced
-ticks_faced plan values rights left made course script (ticks _ less _ _ rest deals) = record { less = less; rest = rest; one_left = refl; is = refl; behind = deals }
+ticks_faced sites values rights left made course script (ticks _ less _ _ rest deals) = record { less = less; rest = rest; one_left = refl; is = refl; behind = deals }
 
 pub answers_faced : AnswersAreFaced
-answers_faced plan values rights left made env course script (answers _ _ _ _ _ _ deals) = deals
+answers_faced sites values rights left made env course script (answers _ _ _ _ _ _ deals) = deals
 
 pub waits_faced : WaitsAreFaced
-waits_faced plan values rights left made variable forked next script (waits _ _ _ _ cell others value _ _ rest found is deals) = record {
+waits_faced sites values rights left made variable forked next script (waits _ _ _ _ cell others value _ _ rest found is deals) = record {
   cell = cell;
   others = others;
   rest = rest;
   is = refl;
   found = found;
-  given = λ other e. subst (λ (v : Value). Deals plan values (record { waits = others; signals = rights.signals }) left made (next (Given v)) rest) (some_same value other (sym is ∙ e)) deals;
+  given = λ other e. subst (λ (v : Value). Deals sites values (with_waits others rights) left made (next (Given v)) rest) (some_same value other (sym is ∙ e)) deals;
   starved = λ e. absurd (none (sym is ∙ e));
 } where
   none : {v : Value} → Some v ≡ None → ⊥
   none e = cc
-waits_faced plan values rights left made variable forked next script (starves _ _ _ _ cell others _ _ found is) = record {
+waits_faced sites values rights left made variable forked next script (starves _ _ _ _ cell others _ _ found is) = record {
   cell = cell;
   others = others;
   rest = Ends Starved;
@@ -57,47 +58,52 @@ waits_faced plan values rights left made variable forked next script (starves _ 
   none v e = cc
 
 pub signals_faced : SignalsAreFaced
-signals_faced plan values rights left made variable value forked next script (hands _ _ _ _ owed others _ _ _ rest found is deals) =
+signals_faced sites values rights left made variable value forked next script (hands _ _ _ _ owed others _ _ _ rest found is deals) =
     record { owed = owed; others = others; rest = rest; is = refl; found = found; handed = is; behind = deals }
 
 pub forks_faced : ForksAreFaced
-forks_faced plan values rights left made site forked next script (goes_on _ _ _ _ steps cells moves _ _ children rest fork fine dealt deals) = record {
+forks_faced sites values rights left made site forked next script (goes_on _ _ _ steps _ info cells moves _ _ children rest planned fork are_moves dealt fine deals) = record {
   cells = cells;
   moves = moves;
   children = children;
   rest = rest;
   is = refl;
+  info = info;
+  planned = planned;
   fork = fork;
+  are_moves = are_moves;
   dealt = dealt;
   joins = λ other e.
-      subst (λ (n : ℕ). Deals plan values (parent_rights (shared_of fork.info) (handovers_of fork.info) (numbers_of cells) rights) (left - n) (made + n) (next (Joined n)) rest)
-      (fine_same steps other (sym fine ∙ e)) deals;
+      subst (λ (n : ℕ). Deals sites values (rights_behind info cells rights) (left - n) (made + n) (next (Joined n)) rest) (fine_same steps other (sym fine ∙ e)) deals;
   fails = λ none. absurd (none steps fine);
 }
-forks_faced plan values rights left made site forked next script (ends_there _ _ _ _ cells moves _ _ children fork none dealt) = record {
+forks_faced sites values rights left made site forked next script (ends_there _ _ _ _ info cells moves _ _ children end planned fork are_moves dealt none end_is) = record {
   cells = cells;
   moves = moves;
   children = children;
-  rest = _;
+  rest = Ends end;
   is = refl;
+  info = info;
+  planned = planned;
   fork = fork;
+  are_moves = are_moves;
   dealt = dealt;
   joins = λ steps e. absurd (none steps e);
-  fails = λ n. refl;
+  fails = λ n. ap (λ (o : Outcome). Ends o) end_is;
 }
 
-module _ (plan : Plan) (values : ℕ → Option Value) (info : SiteInfo) (numbers : List ℕ) (rights : Rights) (left : ℕ) where
+module _ (sites : List SiteInfo) (values : ℕ → Option Value) (info : SiteInfo) (cells : List Cell) (rights : Rights) (left : ℕ) where
   abbrev Begins : ℕ → RunCourse → Option Script → Type 0
-  Begins child course found = (script : Script) × (found ≡ Some script) × Deals plan values (child_rights (shared_of info) (handovers_of info) numbers rights child) left 0 course script
+  Begins child course found = (script : Script) × (found ≡ Some script) × Deals sites values (rights_of_child info cells rights child) left 0 course script
 
-  child_faced : (child : ℕ) (forked : Courses RunEnd) (children : Children) → DealAll plan values info numbers rights left child forked children
+  child_faced : (child : ℕ) (forked : Courses RunEnd) (children : Children) → DealAll sites values info cells rights left child forked children
       → (number : ℕ) (course : RunCourse) → course_at number forked ≡ Some course → Begins (child + number) course (child_at (suc number) children)
   child_faced child forked children (deal_none _ _ _ _ _) number course e = absurd (cc (e))
   child_faced child forked children (deal_more _ _ _ _ _ one further first others deals more) zero course e = (
     first,
     refl,
-    subst (λ (c : RunCourse). Deals plan values (child_rights (shared_of info) (handovers_of info) numbers rights (child + 0)) left 0 c first) (some_same one course e)
-        (subst (λ (k : ℕ). Deals plan values (child_rights (shared_of info) (handovers_of info) numbers rights k) left 0 one first) (none_more child) deals),
+    subst (λ (c : RunCourse). Deals sites values (rights_of_child info cells rights (child + 0)) left 0 c first) (some_same one course e)
+        (subst (λ (k : ℕ). Deals sites values (rights_of_child info cells rights k) left 0 one first) (none_more child) deals),
   )
     where
       none_more : (n : ℕ) → n ≡ n + 0
@@ -109,9 +115,9 @@ module _ (plan : Plan) (values : ℕ → Option Value) (info : SiteInfo) (number
       one_more m n = omega arith
 
 pub children_faced : ChildrenAreFaced
-children_faced plan values info numbers rights left forked children dealt number course e =
-    subst (λ (k : ℕ). Begins plan values info numbers rights left k course (child_at (suc number) children)) (after_one number)
-    (child_faced plan values info numbers rights left 1 forked children dealt number course e)
+children_faced sites values info cells rights left forked children dealt number course e =
+    subst (λ (k : ℕ). Begins sites values info cells rights left k course (child_at (suc number) children)) (after_one number)
+    (child_faced sites values info cells rights left 1 forked children dealt number course e)
   where
     after_one : (n : ℕ) → 1 + n ≡ suc n
     after_one n = omega arith
@@ -120,25 +126,25 @@ children_faced plan values info numbers rights left forked children dealt number
 
 mutual
   pub deals-stand : DealsStand
-  deals-stand plan values rights left made course script (done _ _ _) = stands_done made
-  deals-stand plan values rights left made course script (raised _ _ _ text) = stands_raised text made
-  deals-stand plan values rights left made course script (limited _ _ _) = stands_limited
-  deals-stand plan values rights left made course script (ticks _ less _ one rest deals) = stands_ticks one rest (deals-stand plan values rights less (suc made) one rest deals)
-  deals-stand plan values rights left made course script (answers _ _ _ env one _ deals) = stands_answers env one script (deals-stand plan values rights left made one script deals)
-  deals-stand plan values rights left made course script (waits _ _ _ variable cell others value forked next rest found is deals) =
-      stands_waits variable cell value forked next rest is (deals-stand plan values (record { waits = others; signals = rights.signals }) left made (next (Given value)) rest deals)
-  deals-stand plan values rights left made course script (starves _ _ _ variable cell others forked next found is) = stands_starves variable cell forked next is
-  deals-stand plan values rights left made course script (hands _ _ _ variable owed others value forked next rest found is deals) =
-      stands_hands variable owed.cell value forked next rest is (deals-stand plan values (record { waits = rights.waits; signals = others }) left made _ rest deals)
-  deals-stand plan values rights left made course script (goes_on _ _ _ site steps cells moves forked next children rest fork fine dealt deals) =
-      stands_on site left steps cells moves forked next children rest fine (all-stand plan values fork.info (numbers_of cells) rights left 1 forked children dealt)
-      (deals-stand plan values (parent_rights (shared_of fork.info) (handovers_of fork.info) (numbers_of cells) rights) _ _ (next (Joined steps)) rest deals)
-  deals-stand plan values rights left made course script (ends_there _ _ _ site cells moves forked next children fork none dealt) =
-      stands_there site left cells moves forked next children _ none (all-stand plan values fork.info (numbers_of cells) rights left 1 forked children dealt)
+  deals-stand sites values rights left made course script (done _ _ _) = stands_done made
+  deals-stand sites values rights left made course script (raised _ _ _ text) = stands_raised text made
+  deals-stand sites values rights left made course script (limited _ _ _) = stands_limited
+  deals-stand sites values rights left made course script (ticks _ less _ one rest deals) = stands_ticks one rest (deals-stand sites values rights less (suc made) one rest deals)
+  deals-stand sites values rights left made course script (answers _ _ _ env one _ deals) = stands_answers env one script (deals-stand sites values rights left made one script deals)
+  deals-stand sites values rights left made course script (waits _ _ _ variable cell others value forked next rest found is deals) =
+      stands_waits variable cell value forked next rest is (deals-stand sites values (with_waits others rights) left made (next (Given value)) rest deals)
+  deals-stand sites values rights left made course script (starves _ _ _ variable cell others forked next found is) = stands_starves variable cell forked next is
+  deals-stand sites values rights left made course script (hands _ _ _ variable owed others value forked next rest found is deals) =
+      stands_hands variable owed.cell value forked next rest is (deals-stand sites values (with_signals others rights) left made _ rest deals)
+  deals-stand sites values rights left made course script (goes_on _ _ _ steps site info cells moves forked next children rest planned fork are_moves dealt fine deals) =
+      stands_on site left steps cells moves forked next children rest fine (all-stand sites values info cells rights left 1 forked children dealt)
+      (deals-stand sites values (rights_behind info cells rights) _ _ (next (Joined steps)) rest deals)
+  deals-stand sites values rights left made course script (ends_there _ _ _ site info cells moves forked next children end planned fork are_moves dealt none end_is) =
+      stands_there site left cells moves forked next children end none (all-stand sites values info cells rights left 1 forked children dealt)
 
-  all-stand : (plan : Plan) (values : ℕ → Option Value) (info : SiteInfo) (numbers : List ℕ) (rights : Rights) (left child : ℕ) (forked : Courses RunEnd) (children : Children)
-      → DealAll plan values info numbers rights left child forked children → StandAll values forked children
-  all-stand plan values info numbers rights left child forked children (deal_none _ _ _ _ _) = stand_none
-  all-stand plan values info numbers rights left child forked children (deal_more _ _ _ _ _ one further first others deals more) =
-      stand_more one further first others (deals-stand plan values (child_rights (shared_of info) (handovers_of info) numbers rights child) left 0 one first deals)
-      (all-stand plan values info numbers rights left (suc child) further others more)
+  all-stand : (sites : List SiteInfo) (values : ℕ → Option Value) (info : SiteInfo) (cells : List Cell) (rights : Rights) (left child : ℕ) (forked : Courses RunEnd) (children : Children)
+      → DealAll sites values info cells rights left child forked children → StandAll values forked children
+  all-stand sites values info cells rights left child forked children (deal_none _ _ _ _ _) = stand_none
+  all-stand sites values info cells rights left child forked children (deal_more _ _ _ _ _ one further first others deals more) =
+      stand_more one further first others (deals-stand sites values (rights_of_child info cells rights child) left 0 one first deals)
+      (all-stand sites values info cells rights left (suc child) further others more)

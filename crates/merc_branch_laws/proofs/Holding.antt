@@ -17,7 +17,8 @@ use Rattle.merc_plan.specs.Branches.{signal_cell}
 use Rattle.merc_plan.proofs.NumberingLists.{distinct_append}
 use Rattle.merc_plan.proofs.Sets.{clash, front_or, in_either}
 use Rattle.merc_plan.proofs.Givers.{named_low}
-use Rattle.merc_branch_laws.specs.Dealing.{shared_of, handovers_of, moves_of}
+use Rattle.merc_carried.specs.Sharing.{shared_of, given_of}
+use Rattle.merc_branch_laws.specs.Dealing.{moves_of}
 use Rattle.merc_branch_laws.proofs.Parts.{Part, nothing, part_front, part_filter, filter_part, has_part, distinct_part}
 use Rattle.merc_branch_laws.proofs.Finding.{due_cells, owed_cells, first_for, rest_for, rest_part, first_part, due_of, dues, first_due, rest_due, best_for, without_owed, best_part, owed_of, owing, best_held, left_owed}
 use Rattle.merc_branch_laws.proofs.Handing.{map_both, shared, names_from, own_dues, own_owed, own_uses, own_makes, used_named, made_named, uses_distinct, makes_distinct, handed, into_dues, into_owed, kept_dues, kept_owed, moves_same, HandsOver, part_hands, none_hand}
@@ -239,22 +240,22 @@ module _ (next : ℕ) (infos : List CellInfo) (k : ℕ) where
 
 module _ (next : ℕ) (frame : Bool) (left : Rights) (hold : Hold) (h : Holds next frame [] left hold) (info : SiteInfo) (still : frame ≡ false → info.moves ≡ []) where
   abbrev moving_in : ℕ → List Due
-  moving_in k = waits_into k (handovers_of info) h.others
+  moving_in k = waits_into k (given_of info) h.others
 
   abbrev owed_in : ℕ → List Owed
-  owed_in k = signals_into k (handovers_of info) (owing hold.signals)
+  owed_in k = signals_into k (given_of info) (owing hold.signals)
 
   in_waits : (k : ℕ) → Part Due (moving_in k) h.others
-  in_waits k = filter_part (λ (right : Due). goes_to k (child_for false right.variable (handovers_of info))) h.others
+  in_waits k = filter_part (λ (right : Due). goes_to k (child_for false right.variable (given_of info))) h.others
 
   in_signals : (k : ℕ) → Part Owed (owed_in k) (owing hold.signals)
-  in_signals k = filter_part (λ (right : Owed). goes_to k (child_for true right.variable (handovers_of info))) (owing hold.signals)
+  in_signals k = filter_part (λ (right : Owed). goes_to k (child_for true right.variable (given_of info))) (owing hold.signals)
 
   kid_dues : (k : ℕ) (given : List Gift) → dues (plan_waits k given (named hold.next info.cells) ++ plan_waits_into k info.moves hold.waits) ≡ own_due next info.cells k ++ moving_in k
   kid_dues k given =
       map_both due_of (plan_waits k given (named hold.next info.cells)) (plan_waits_into k info.moves hold.waits)
       ∙ ap (λ (l : List Due). l ++ dues (plan_waits_into k info.moves hold.waits)) (own_dues k given hold.next info.cells ∙ ap (λ (n : ℕ). own_due n info.cells k) h.begins)
-      ∙ ap (λ (l : List Due). own_due next info.cells k ++ l) (into_dues info.moves k hold.waits ∙ ap (waits_into k (handovers_of info)) h.waits)
+      ∙ ap (λ (l : List Due). own_due next info.cells k ++ l) (into_dues info.moves k hold.waits ∙ ap (waits_into k (given_of info)) h.waits)
 
   kid_owing : (k : ℕ) → owing (plan_signals k (named hold.next info.cells) ++ plan_signals_into k info.moves hold.signals) ≡ own_owe next info.cells k ++ owed_in k
   kid_owing k =
@@ -270,18 +271,18 @@ module _ (next : ℕ) (frame : Bool) (left : Rights) (hold : Hold) (h : Holds ne
 
   -- a conjunct, of all that may be left
   pub holds_kid : (fewer : Rights) → ArePart fewer left → (k : ℕ) (goal : Node) (given : List Gift)
-      → Holds (next + length info.cells) true [] (child_rights (shared_of info) (handovers_of info) (names_from next info.cells) fewer k) (conjunct_hold info k goal hold given)
+      → Holds (next + length info.cells) true [] (child_rights (shared_of info) (given_of info) (names_from next info.cells) fewer k) (conjunct_hold info k goal hold given)
   holds_kid fewer p k goal given = record {
     begins = ap (λ (n : ℕ). n + length info.cells) h.begins;
     some = let s = h.some in omega (arith, s);
     others = own_due next info.cells k ++ moving_in k;
     waits = kid_dues k given;
     covers_waits =
-        part_front (own_due next info.cells k) (waits_into k (handovers_of info) fewer.waits) (moving_in k)
+        part_front (own_due next info.cells k) (waits_into k (given_of info) fewer.waits) (moving_in k)
         (entering_waits frame info.moves k fewer.waits h.others still (covers_less frame fewer.waits left.waits h.others p.0 h.covers_waits));
     covers_signals =
-        subst (λ (l : List Owed). Part Owed (own_owe next info.cells k ++ signals_into k (handovers_of info) fewer.signals) l) (sym (kid_owing k))
-        (part_front (own_owe next info.cells k) (signals_into k (handovers_of info) fewer.signals) (owed_in k)
+        subst (λ (l : List Owed). Part Owed (own_owe next info.cells k ++ signals_into k (given_of info) fewer.signals) l) (sym (kid_owing k))
+        (part_front (own_owe next info.cells k) (signals_into k (given_of info) fewer.signals) (owed_in k)
         (entering_signals frame info.moves k fewer.signals (owing hold.signals) still (covers_less frame fewer.signals left.signals (owing hold.signals) p.1 h.covers_signals)));
     wait_cells = due_both next info.cells k (moving_in k) (distinct_part (λ (one : Due). one.cell) (moving_in k) h.others (in_waits k) h.wait_cells) (low_in k);
     signal_cells =
@@ -292,16 +293,16 @@ module _ (next : ℕ) (frame : Bool) (left : Rights) (hold : Hold) (h : Holds ne
   }
 
   abbrev kept_here : List Due
-  kept_here = waits_kept (handovers_of info) h.others
+  kept_here = waits_kept (given_of info) h.others
 
   abbrev owed_here : List Owed
-  owed_here = signals_kept (handovers_of info) (owing hold.signals)
+  owed_here = signals_kept (given_of info) (owing hold.signals)
 
   here_waits : Part Due kept_here h.others
-  here_waits = filter_part (λ (right : Due). stays (child_for false right.variable (handovers_of info))) h.others
+  here_waits = filter_part (λ (right : Due). stays (child_for false right.variable (given_of info))) h.others
 
   here_signals : Part Owed owed_here (owing hold.signals)
-  here_signals = filter_part (λ (right : Owed). stays (child_for true right.variable (handovers_of info))) (owing hold.signals)
+  here_signals = filter_part (λ (right : Owed). stays (child_for true right.variable (given_of info))) (owing hold.signals)
 
   low_here : (c : ℕ) → has c (due_cells kept_here) ≡ true → c < next
   low_here c i = h.low_waits c (has_part (λ (one : Due). one.cell) c kept_here h.others here_waits i)
@@ -315,11 +316,11 @@ module _ (next : ℕ) (frame : Bool) (left : Rights) (hold : Hold) (h : Holds ne
     waits =
         map_both due_of (plan_waits 0 given (named hold.next info.cells)) (plan_waits_kept info.moves hold.waits)
         ∙ ap (λ (l : List Due). l ++ dues (plan_waits_kept info.moves hold.waits)) (own_dues 0 given hold.next info.cells ∙ ap (λ (n : ℕ). own_due n info.cells 0) h.begins)
-        ∙ ap (λ (l : List Due). own_due next info.cells 0 ++ l) (kept_dues info.moves hold.waits ∙ ap (waits_kept (handovers_of info)) h.waits);
-    covers_waits = staying_waits frame (handovers_of info) left.waits h.others h.covers_waits;
+        ∙ ap (λ (l : List Due). own_due next info.cells 0 ++ l) (kept_dues info.moves hold.waits ∙ ap (waits_kept (given_of info)) h.waits);
+    covers_waits = staying_waits frame (given_of info) left.waits h.others h.covers_waits;
     covers_signals =
-        subst (λ (l : List Owed). Covers Owed frame (signals_kept (handovers_of info) left.signals) l) (sym (kept_owed info.moves hold.signals))
-        (staying_signals frame (handovers_of info) left.signals (owing hold.signals) h.covers_signals);
+        subst (λ (l : List Owed). Covers Owed frame (signals_kept (given_of info) left.signals) l) (sym (kept_owed info.moves hold.signals))
+        (staying_signals frame (given_of info) left.signals (owing hold.signals) h.covers_signals);
     wait_cells = due_both next info.cells 0 kept_here (distinct_part (λ (one : Due). one.cell) kept_here h.others here_waits h.wait_cells) low_here;
     signal_cells =
         subst (λ (l : List Owed). AreDistinct (owed_cells l)) (sym (kept_owed info.moves hold.signals))
@@ -335,16 +336,16 @@ module _ (next : ℕ) (frame : Bool) (left : Rights) (hold : Hold) (h : Holds ne
       ap (λ (l : List Due). moves_of moves (record { waits = l; signals = signals })) e ∙ ap (λ (l : List Owed). moves_of moves (record { waits = []; signals = l })) d
 
   hands_as : (frame : Bool) (fewer : Rights) → (frame ≡ false → info.moves ≡ []) → Covers Due frame fewer.waits h.others → Covers Owed frame fewer.signals (owing hold.signals)
-      → HandsOver (handovers_of info) (moves_of (handovers_of info) (record { waits = h.others; signals = owing hold.signals })) fewer
-  hands_as true fewer none w s = part_hands (handovers_of info) (record { waits = h.others; signals = owing hold.signals }) fewer w s h.wait_cells h.signal_cells
+      → HandsOver (given_of info) (moves_of (given_of info) (record { waits = h.others; signals = owing hold.signals })) fewer
+  hands_as true fewer none w s = part_hands (given_of info) (record { waits = h.others; signals = owing hold.signals }) fewer w s h.wait_cells h.signal_cells
   hands_as false fewer none w s =
-      subst (λ (l : List Move). HandsOver (handovers_of info) l fewer) (sym (nothing_of (handovers_of info) h.others (owing hold.signals) w s))
+      subst (λ (l : List Move). HandsOver (given_of info) l fewer) (sym (nothing_of (given_of info) h.others (owing hold.signals) w s))
       (subst (λ (m : List Moved). HandsOver (handed m) [] fewer) (sym (none refl)) (none_hand fewer))
 
   -- what moves
-  pub hands_over : (fewer : Rights) → ArePart fewer left → HandsOver (handovers_of info) (moves_from info.moves hold) fewer
+  pub hands_over : (fewer : Rights) → ArePart fewer left → HandsOver (given_of info) (moves_from info.moves hold) fewer
   hands_over fewer p =
-      subst (λ (l : List Move). HandsOver (handovers_of info) l fewer)
-      (sym (moves_same info.moves hold ∙ ap (λ (l : List Due). moves_of (handovers_of info) (record { waits = l; signals = owing hold.signals })) h.waits))
+      subst (λ (l : List Move). HandsOver (given_of info) l fewer)
+      (sym (moves_same info.moves hold ∙ ap (λ (l : List Due). moves_of (given_of info) (record { waits = l; signals = owing hold.signals })) h.waits))
       (hands_as frame fewer still (covers_less frame fewer.waits left.waits h.others p.0 h.covers_waits)
       (covers_less frame fewer.signals left.signals (owing hold.signals) p.1 h.covers_signals))

@@ -12,7 +12,7 @@ use Rattle.merc_plan.proofs.NumberingLists.{without_in}
 use Rattle.merc_plan.proofs.Sets.{clash, absent, first_in, in_left, in_right, in_either, moved_move, moved_of_to}
 use Rattle.merc_plan.proofs.Givers.{named_low}
 use Rattle.merc_plan.proofs.Judging.{makes, uses}
-use Rattle.merc_branch_laws.specs.Dealing.{shared_of, handovers_of}
+use Rattle.merc_carried.specs.Sharing.{shared_of, given_of}
 use Rattle.merc_branch_laws.proofs.Parts.{Part, filter_part, has_part, distinct_part}
 use Rattle.merc_branch_laws.proofs.Finding.{due_cells, owed_cells, first_for, rest_for, rest_part, rest_has, without_owed, left_has}
 use Rattle.merc_branch_laws.proofs.Handing.{map_both, names_from, own_uses, own_makes, used_named, made_named, HandsOver}
@@ -114,7 +114,7 @@ module _ (next : ℕ) (signals waits : List ℕ) (left : Rights) (k : Kept next 
 -- A fork: its own cells have these names, and each right that moves is held.
 module _ (next : ℕ) (signals waits : List ℕ) (left : Rights) (k : Kept next signals waits [] left) (info : SiteInfo) (cells : List Cell) (moves : List Move)
     (used : (n : ℕ) → used_by n cells ≡ uses n (named next info.cells)) (made : (n : ℕ) → made_by n cells ≡ makes n (named next info.cells))
-    (hands : HandsOver (handovers_of info) moves left) (steps limit count : ℕ) (fits : ForkFits steps signals waits limit cells moves count) where
+    (hands : HandsOver (given_of info) moves left) (steps limit count : ℕ) (fits : ForkFits steps signals waits limit cells moves count) where
   holds_wait : (c : ℕ) (m : Move) → m.cell ≡ c → m.signal ≡ false → has m.cell (held_of m.signal signals waits) ≡ true → has c waits ≡ true
   holds_wait c m e d h = subst (λ (n : ℕ). has n waits ≡ true) e (subst (λ (b : Bool). has m.cell (held_of b signals waits) ≡ true) d h)
 
@@ -144,16 +144,16 @@ module _ (next : ℕ) (signals waits : List ℕ) (left : Rights) (k : Kept next 
 
   module _ (n : ℕ) where
     abbrev in_waits : List Due
-    in_waits = waits_into n (handovers_of info) left.waits
+    in_waits = waits_into n (given_of info) left.waits
 
     abbrev in_signals : List Owed
-    in_signals = signals_into n (handovers_of info) left.signals
+    in_signals = signals_into n (given_of info) left.signals
 
     in_waits_part : Part Due in_waits left.waits
-    in_waits_part = filter_part (λ (right : Due). goes_to n (child_for false right.variable (handovers_of info))) left.waits
+    in_waits_part = filter_part (λ (right : Due). goes_to n (child_for false right.variable (given_of info))) left.waits
 
     in_signals_part : Part Owed in_signals left.signals
-    in_signals_part = filter_part (λ (right : Owed). goes_to n (child_for true right.variable (handovers_of info))) left.signals
+    in_signals_part = filter_part (λ (right : Owed). goes_to n (child_for true right.variable (given_of info))) left.signals
 
     low_in : (c : ℕ) → has c (due_cells in_waits) ≡ true → c < next
     low_in c h = k.low_waits c (has_part (λ (one : Due). one.cell) c in_waits left.waits in_waits_part h)
@@ -178,7 +178,7 @@ module _ (next : ℕ) (signals waits : List ℕ) (left : Rights) (k : Kept next 
     no_owed (inr h) = clash (has 0 (owed_cells left.signals)) (has_part (λ (one : Owed). one.cell) 0 in_signals left.signals in_signals_part h) k.no_signal
 
     -- what a conjunct is dealt
-    pub kept_kid : Kept (next + length info.cells) (signals_at n cells moves) (waits_at n cells moves) [] (child_rights (shared_of info) (handovers_of info) (names_from next info.cells) left n)
+    pub kept_kid : Kept (next + length info.cells) (signals_at n cells moves) (waits_at n cells moves) [] (child_rights (shared_of info) (given_of info) (names_from next info.cells) left n)
     kept_kid = record {
       some = let s = k.some in omega (arith, s);
       has_waits = λ c h. in_due c (own_due next info.cells n) in_waits (kid_waits c (in_either c (used_by n cells) (moved_to n false moves) h));
@@ -191,16 +191,16 @@ module _ (next : ℕ) (signals waits : List ℕ) (left : Rights) (k : Kept next 
     }
 
   abbrev kept_here : List Due
-  kept_here = waits_kept (handovers_of info) left.waits
+  kept_here = waits_kept (given_of info) left.waits
 
   abbrev owed_here : List Owed
-  owed_here = signals_kept (handovers_of info) left.signals
+  owed_here = signals_kept (given_of info) left.signals
 
   here_part : Part Due kept_here left.waits
-  here_part = filter_part (λ (right : Due). stays (child_for false right.variable (handovers_of info))) left.waits
+  here_part = filter_part (λ (right : Due). stays (child_for false right.variable (given_of info))) left.waits
 
   owed_part : Part Owed owed_here left.signals
-  owed_part = filter_part (λ (right : Owed). stays (child_for true right.variable (handovers_of info))) left.signals
+  owed_part = filter_part (λ (right : Owed). stays (child_for true right.variable (given_of info))) left.signals
 
   behind_waits : (c : ℕ) → (has c (used_by 0 cells) ≡ true) ⊎ (has c (without (numbers_of cells) (without (moved false moves) waits)) ≡ true)
       → (has c (due_cells (own_due next info.cells 0)) ≡ true) ⊎ (has c (due_cells kept_here) ≡ true)

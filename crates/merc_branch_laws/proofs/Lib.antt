@@ -9,4 +9,5 @@ pub mod Holding
 pub mod LookingNodes
 pub mod Keeping
 pub mod DealingAt
+pub mod Runs
 pub mod Accepted

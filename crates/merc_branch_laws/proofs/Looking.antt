@@ -14,7 +14,7 @@ use Rattle.merc_plan.specs.Branch.{Hold, Fork, BranchCourse, BranchCourses, Over
 use Rattle.merc_plan.specs.Hold.{named}
 use Rattle.merc_plan.specs.Branches.{Plan, once_if as b_once_if}
 use Rattle.merc_plan.proofs.Judging.{kid_count}
-use Rattle.merc_branch_laws.specs.Dealing.{shared_of, handovers_of}
+use Rattle.merc_carried.specs.Sharing.{shared_of, given_of}
 use Rattle.merc_branch_laws.proofs.Parts.{Part, part_same, part_both, part_filter, filter_part}
 use Rattle.merc_branch_laws.proofs.Finding.{due_cells, owed_cells, first_for, rest_for, rest_part, rest_more, dues, best_for, without_owed, owing}
 use Rattle.merc_branch_laws.proofs.Handing.{names_from, HandsOver}
@@ -67,7 +67,7 @@ abbrev pub behind_signal : ℕ → Rights → Rights
 behind_signal c left = record { waits = left.waits; signals = without_owed c left.signals }
 
 abbrev pub behind_fork : SiteInfo → Rights → Rights
-behind_fork info left = record { waits = waits_kept (handovers_of info) left.waits; signals = signals_kept (handovers_of info) left.signals }
+behind_fork info left = record { waits = waits_kept (given_of info) left.waits; signals = signals_kept (given_of info) left.signals }
 
 wait_less : (x : ℕ) (pending : List Due) (left : Rights) → ArePart (behind_wait x pending left) left
 wait_less x pending left = (past_part x pending left.waits, part_same left.signals)
@@ -77,8 +77,8 @@ signal_less c left = (part_same left.waits, filter_part (λ (one : Owed). not (o
 
 fork_less : (info : SiteInfo) (left : Rights) → ArePart (behind_fork info left) left
 fork_less info left = (
-  filter_part (λ (right : Due). stays (child_for false right.variable (handovers_of info))) left.waits,
-  filter_part (λ (right : Owed). stays (child_for true right.variable (handovers_of info))) left.signals,
+  filter_part (λ (right : Due). stays (child_for false right.variable (given_of info))) left.waits,
+  filter_part (λ (right : Owed). stays (child_for true right.variable (given_of info))) left.signals,
 )
 
 wait_more : (x : ℕ) (pending : List Due) (fewer left : Rights) → ArePart fewer left → ArePart (behind_wait x pending fewer) (behind_wait x pending left)
@@ -89,8 +89,8 @@ signal_more c fewer left p = (p.0, part_filter (λ (one : Owed). not (one.cell =
 
 pub fork_more : (info : SiteInfo) (fewer left : Rights) → ArePart fewer left → ArePart (behind_fork info fewer) (behind_fork info left)
 fork_more info fewer left p = (
-  part_filter (λ (right : Due). stays (child_for false right.variable (handovers_of info))) fewer.waits left.waits p.0,
-  part_filter (λ (right : Owed). stays (child_for true right.variable (handovers_of info))) fewer.signals left.signals p.1,
+  part_filter (λ (right : Due). stays (child_for false right.variable (given_of info))) fewer.waits left.waits p.0,
+  part_filter (λ (right : Owed). stays (child_for true right.variable (given_of info))) fewer.signals left.signals p.1,
 )
 
 -- What a branch holds covers what is left to it, where these are rights of the goals that it holds them for; in the body of a called procedure it holds none but pending ones.
@@ -156,7 +156,7 @@ module _ (plan : Plan) where
           → SeesSignal left.signals x c → Looks next frame [] (behind_signal c left) (f Passed) t'
           → Looks next frame [] left (Meets (AtSignal x v) ks f) (Gives c v t')
       looks_fork : (next : ℕ) (frame : Bool) (left : Rights) (site : ℕ) (info : SiteInfo) (y : Fork) (ks : Courses End) (f : Reply → GoalCourse) (kids : BranchCourses) (t' : BranchCourse)
-          → plan site ≡ Some info → info.children ≡ kid_count kids → y.cells ≡ named next info.cells → ((fewer : Rights) → ArePart fewer left → HandsOver (handovers_of info) y.moves fewer)
+          → plan site ≡ Some info → info.children ≡ kid_count kids → y.cells ≡ named next info.cells → ((fewer : Rights) → ArePart fewer left → HandsOver (given_of info) y.moves fewer)
           → LookAll info next left 1 ks kids
           → ((steps : ℕ) → Looks next frame (own_waits 0 (shared_of info) (names_from next info.cells)) (behind_fork info left) (f (Joined steps)) t')
           → Looks next frame [] left (Meets (AtFork site) ks f) (Forks site y kids t')
@@ -166,7 +166,7 @@ module _ (plan : Plan) where
       look_none : (info : SiteInfo) (next : ℕ) (left : Rights) (k : ℕ) → LookAll info next left k no_courses no_branches
       look_more : (info : SiteInfo) (next : ℕ) (left : Rights) (k : ℕ) (t : GoalCourse) (ts : Courses End) (t' : BranchCourse) (more : BranchCourses)
           → ((fewer : Rights) → ArePart fewer left
-          → Looks (next + length info.cells) true [] (child_rights (shared_of info) (handovers_of info) (names_from next info.cells) fewer k) t (b_closed t'))
+          → Looks (next + length info.cells) true [] (child_rights (shared_of info) (given_of info) (names_from next info.cells) fewer k) t (b_closed t'))
           → LookAll info next left (suc k) ts more → LookAll info next left k (more_courses t ts) (more_branches t' more)
 
   look_less : (info : SiteInfo) (next : ℕ) (fewer left : Rights) (k : ℕ) (ts : Courses End) (kids : BranchCourses) → ArePart fewer left → LookAll info next left k ts kids → LookAll info next fewer k ts kids

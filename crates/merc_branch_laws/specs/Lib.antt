@@ -3,3 +3,4 @@ pub mod Facing
 pub mod BranchLaws
 pub mod DealingExamples
 pub mod FacingExamples
+pub mod BranchLawsExamples

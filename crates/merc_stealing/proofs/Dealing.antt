@@ -17,14 +17,14 @@ use Rattle.merc_yard.specs.Berths.{spot_of}
 use Rattle.merc_board.specs.declared.branch.Branch.{Branch}
 use Rattle.merc_board.specs.Rights.{Rights}
 use Rattle.merc_board.specs.Going.{child_place}
-use Rattle.merc_stealing.specs.declared.types.Bed.{Bed}
-use Rattle.merc_stealing.specs.declared.branch.Hold.{Hold}
-use Rattle.merc_stealing.specs.Owning.{spot_held}
-use Rattle.merc_stealing.specs.Spots.{place, fork_count, parked, parking_in, parked_for, Reaches}
-use Rattle.merc_stealing.specs.Beds.{IsMoored}
-use Rattle.merc_stealing.specs.Lying.{rights}
-use Rattle.merc_stealing.specs.Kids.{IsFor, AreFor, KidFits, AreMade, Joins}
-use Rattle.merc_stealing.proofs.Lists.{got_end, at_last, at_front}
+use Rattle.merc_held_branches.specs.declared.types.Bed.{Bed}
+use Rattle.merc_held_branches.specs.declared.branch.Hold.{Hold}
+use Rattle.merc_held_branches.specs.Owning.{spot_held}
+use Rattle.merc_held_branches.specs.Spots.{place, fork_count, parked, parking_in, parked_for, Reaches}
+use Rattle.merc_held_branches.specs.Beds.{IsMoored}
+use Rattle.merc_held_branches.specs.Lying.{rights}
+use Rattle.merc_held_branches.specs.Kids.{IsFor, AreFor, KidFits, AreMade, Joins}
+use Rattle.merc_held_branches.proofs.Lists.{got_end, at_last, at_front}
 
 module _ {L : Type 0} (root : Script) (stands : L → Rights → Place → Type 0) (table : TableId) where
   abbrev Parted : List (Box (Branch L (Hold L)) Global) → List (Ticket (Bed L)) → Box (Branch L (Hold L)) Global → Ticket (Bed L) → Type 0

@@ -20,17 +20,17 @@ use Rattle.merc_board.specs.declared.fork.SharedCell.{SharedCell}
 use Rattle.merc_board.specs.declared.fork.Handover.{Handover}
 use Rattle.merc_board.specs.Boarding.{MayEnd as MayEndAs, Prepares, MayGoOn, at_end, lost, lost_at, lost_starved, starves, IsJoined}
 use Rattle.merc_board.specs.declared.branch.Pace.TheVariants.{On}
-use Rattle.merc_stealing.specs.declared.branch.Hold.{Hold}
-use Rattle.merc_stealing.specs.Spots.{place, parked}
-use Rattle.merc_stealing.specs.Owning.{Runs, Own, MayEnd, spot_held}
+use Rattle.merc_held_branches.specs.declared.branch.Hold.{Hold}
+use Rattle.merc_held_branches.specs.Spots.{place, parked}
+use Rattle.merc_held_branches.specs.Owning.{Runs, Own, MayEnd, spot_held}
 use Rattle.merc_stealing.specs.Parents.{Near}
 use Rattle.merc_stealing.specs.Seats.{ArePasses}
 use Rattle.merc_stealing.specs.Hands.{OwnOf, RunsOf, is_none, is_root_hold}
-use Rattle.merc_stealing.specs.Lying.{Placed}
-use Rattle.merc_stealing.specs.Owning.{HasBerth}
-use Rattle.merc_stealing.specs.Spots.{Reaches}
-use Rattle.merc_stealing.specs.Picking.{IsKept}
-use Rattle.merc_stealing.specs.declared.types.Bed.{Bed}
+use Rattle.merc_held_branches.specs.Lying.{Placed}
+use Rattle.merc_held_branches.specs.Owning.{HasBerth}
+use Rattle.merc_held_branches.specs.Spots.{Reaches}
+use Rattle.merc_held_branches.specs.Picking.{IsKept}
+use Rattle.merc_held_branches.specs.declared.types.Bed.{Bed}
 use Rattle.merc_join.specs.declared.ends.Ticket.{Ticket}
 use Rattle.merc_yard.specs.declared.berth.Berth.{Berth}
 

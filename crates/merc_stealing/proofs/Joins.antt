@@ -10,8 +10,8 @@ use Rattle.merc_script.proofs.JoiningLaws.{joined-in-order}
 use Rattle.merc_yard.specs.declared.berth.Berth.{Berth}
 use Rattle.merc_yard.specs.Berths.{spot_of}
 use Rattle.atomic_table.specs.Seated.{TableId}
-use Rattle.merc_stealing.specs.Spots.{place, fork_count}
-use Rattle.merc_stealing.specs.Beds.{EndsChild, child_name}
+use Rattle.merc_held_branches.specs.Spots.{place, fork_count}
+use Rattle.merc_held_branches.specs.Beds.{EndsChild, child_name}
 use Rattle.merc_stealing.specs.Parents.{Near, AreEnds, IsJoin}
 
 is_lost : Outcome → Bool
