@@ -11,7 +11,7 @@ use Rattle.merc_course.specs.Courses.{course}
 use Rattle.merc_course.specs.Shown.{shown}
 use Rattle.merc_par_split.specs.Split.{split, all_split}
 use Rattle.merc_par_split.specs.Sites.{all_sites}
-use Rattle.merc_code.specs.Steps.{Code, Codes}
+use Rattle.merc_code.specs.Steps.{Code}
 use Rattle.merc_code.specs.ProgramCode.{ProgramCode, codes_in}
 use Rattle.merc_code.specs.Meaning.{start}
 use Rattle.merc_gen.specs.Generated.{codes_of, query_code}

@@ -1,5 +1,5 @@
 -- What is known of machines that are run by hand, behind their stops and where they go on.
-use Rattle.std.proofs.Common.{◌≡◌, ◌≤◌, ◌+◌, ℕ, suc, refl, subst, true, false, arith, List, [], ◌∷◌, length}
+use Rattle.std.proofs.Common.{◌≡◌, ◌≤◌, ℕ, refl, subst, false, arith, List, [], ◌∷◌, length}
 use Rattle.std.specs.Prelude.{Some, map}
 use Rattle.std.proofs.lemmas.Option.{same_Some}
 use Rattle.std.specs.Option.{is_some}

@@ -1,5 +1,5 @@
 //! Goals over a module, made ready to be run with their forks, and the lines to which they come.
-ghost use Rattle.std.specs.Prelude.{◌≡◌, ◌≤◌, ◌<◌, ◌∷◌, [], ℕ, List, IfOk, OnOk, length};
+ghost use Rattle.std.specs.Prelude.{◌≡◌, ◌≤◌, ◌<◌, ◌∷◌, [], ℕ, List, IfOk, length};
 ghost use Rattle.merc_graded_tree.specs.Nodes.{Node};
 ghost use Rattle.merc_course.specs.Course.{RunCourse};
 ghost use Rattle.merc_par_split.specs.Split.{split, all_split};
@@ -10,7 +10,6 @@ ghost use Rattle.merc_last_calls.specs.LeanMeaning.{YieldsLean};
 ghost use Rattle.merc_load.specs.Loaded.{IsProgram};
 ghost use Rattle.merc_machine.specs.Coming.{all_left};
 ghost use Rattle.merc_machine.specs.Running.{Means};
-ghost use Rattle.merc_machine.specs.declared.running.Stop.TheVariants.{NoMemory as RefusedMemory};
 
 use crate::driving::{Driver, run_on};
 use crate::rights::Rights;
