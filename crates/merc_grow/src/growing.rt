@@ -41,19 +41,19 @@ fn push_clause(alloc: Global, count: u64, number: u64, text: &mut Text) -> Resul
     let first = 1 + (7 * number + 3) % count;
     let second = 1 + (5 * number + 1) % count;
     push_numbered(alloc, b"p", number, text)?;
-    push_numbered(alloc, b"(X, Y) :- ( if X =< 0 then Y = ", (37 * number + 11) % 1000, text)?;
+    push_numbered(
+        alloc,
+        b"(X, Y) :- ( if X =< 0 then Y = ",
+        (37 * number + 11) % 1000,
+        text,
+    )?;
     push_numbered(alloc, b" else ( p", first, text)?;
     push_numbered(alloc, b"(X - 1, A) & p", second, text)?;
     text.push(b"(X - 1, B) ), Y = (A + B) mod 1000000 ).\n")
 }
 
 // Puts these words and a number behind a text.
-fn push_numbered(
-    alloc: Global,
-    words: &[u8],
-    number: u64,
-    text: &mut Text,
-) -> Result<(), NoMemory>
+fn push_numbered(alloc: Global, words: &[u8], number: u64, text: &mut Text) -> Result<(), NoMemory>
     ensures { OnOk result (text.new ≡ text.old ++ words.now ++ decimal number) }
 {
     text.push(words)?;
