@@ -1,0 +1,2 @@
+pub mod TapsExamples
+pub mod TapsLaws

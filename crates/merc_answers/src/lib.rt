@@ -1,0 +1,6 @@
+//! What is told of the answers of a run while it goes on.
+#![tactic(auto)]
+
+mod telling;
+
+pub use telling::tell;
