@@ -1,2 +1,3 @@
+pub mod ChangedLists
 pub mod TapsExamples
 pub mod TapsLaws
