@@ -1,3 +1,4 @@
 pub mod ChangedLists
+pub mod TapEvents
+pub mod TapLists
 pub mod TapsExamples
-pub mod TapsLaws

@@ -1,6 +1,6 @@
 -- A tap that is not over takes the event.
 use Rattle.std.proofs.Common.{◌≡◌, ◌∙◌, false, sym}
-use Rattle.merc_answers.proofs.TapsLaws.{take_saw}
+use Rattle.merc_answers.proofs.TapEvents.{take_saw}
 use Rattle.merc_answers.proofs.telling.tell_one.Goals as goal
 
 pub returns-then-not-is_over : goal.returns-then-not-is_over

@@ -15,7 +15,7 @@ count_one : (count : Option ℕ) → count_after count ≡ option_map (λ (n : �
 count_one None = refl
 count_one (Some n) = refl
 
-same_state : (seen seen' : Option (List TapEvent)) (count count' : Option ℕ) (is_over is_over' : Bool) (faults faults' : ℕ) → seen ≡ seen' → count ≡ count' → is_over ≡ is_over' → faults ≡ faults'
+pub same_state : (seen seen' : Option (List TapEvent)) (count count' : Option ℕ) (is_over is_over' : Bool) (faults faults' : ℕ) → seen ≡ seen' → count ≡ count' → is_over ≡ is_over' → faults ≡ faults'
     → ◌≡◌ {A = TapState} (record { seen = seen; count = count; is_over = is_over; faults = faults }) (record { seen = seen'; count = count'; is_over = is_over'; faults = faults' })
 same_state seen seen' count count' is_over is_over' faults faults' s c o f = cc
 
@@ -28,7 +28,7 @@ counted-none None = refl
 counted-none (Some n) = ap (λ (all : ℕ). Some all) (omega arith)
 
 -- a tap that has seen no further event is as it was
-with_none : (tap : TapState) → with_seen [] tap ≡ tap
+pub with_none : (tap : TapState) → with_seen [] tap ≡ tap
 with_none tap = same_state (appended tap.seen []) tap.seen (option_map (λ (n : ℕ). n + 0) tap.count) tap.count tap.is_over tap.is_over tap.faults tap.faults (appended-none tap.seen) (counted-none tap.count) refl refl
 
 -- a tap that took an event has seen it, unless memory was refused
