@@ -1,0 +1,4 @@
+pub mod ChangedLists
+pub mod TapEvents
+pub mod TapLists
+pub mod TapsExamples

@@ -1,0 +1,2 @@
+pub mod GrownExamples
+pub mod GrownLemmas
