@@ -71,13 +71,17 @@ name_in names (Some declared) = text_at names declared.name
 abbrev pub mode_text : List ℕ → List Arg → List ℕ
 mode_text name places = name_text name ++ places_text places
 
+-- the slots of a call's inputs, and behind a colon those of its outputs
+abbrev pub call_slots : List Arg → List ℕ → List (List ℕ)
+call_slots places arguments = map slot (inputs places arguments) ++ codes ":" ∷ map slot (outputs places arguments)
+
+abbrev pub places_of : List PredDecl → Procedure → List Arg
+places_of predicates procedure = places_in (mode_in (slice_get predicates procedure.predicate) procedure.mode)
+
 -- Given are the texts of names and the predicates by their numbers.
 module _ (names : List (List ℕ)) (predicates : List PredDecl) where
-  abbrev pub places_of : Procedure → List Arg
-  places_of procedure = places_in (mode_in (slice_get predicates procedure.predicate) procedure.mode)
-
   abbrev pub procedure_text : Procedure → List ℕ
-  procedure_text procedure = mode_text (name_in names (slice_get predicates procedure.predicate)) (places_of procedure)
+  procedure_text procedure = mode_text (name_in names (slice_get predicates procedure.predicate)) (places_of predicates procedure)
 
   -- a symbol, and where a switch goes on for it
   abbrev pub target_text : ℕ → Target → List ℕ
@@ -103,8 +107,7 @@ module _ (names : List (List ℕ)) (predicates : List PredDecl) where
     operands place (Mark mark) = slot (marks + mark) ∷ []
     operands place (Commit mark) = slot (marks + mark) ∷ []
     operands place (Soften mark) = slot (marks + mark) ∷ []
-    operands place (Call procedure arguments) =
-        procedure_text procedure ∷ (map slot (inputs (places_of procedure) arguments) ++ codes ":" ∷ map slot (outputs (places_of procedure) arguments))
+    operands place (Call procedure arguments) = procedure_text procedure ∷ call_slots (places_of predicates procedure) arguments
     operands place Return = []
     operands place Fail = []
     operands place (Answer variables) = []

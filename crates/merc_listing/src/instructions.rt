@@ -1,15 +1,14 @@
 //! Instructions as they are listed.
 ghost use Rattle.std.specs.Prelude.{◌≡◌, ◌≤◌, ◌++◌, [], ◌∷◌, codes, map, slice_get, option_map, OnOk};
 ghost use Rattle.std.specs.Fmt.{decimal, signed_decimal};
-ghost use Rattle.std.specs.Option.{option_copied};
 ghost use Rattle.merc_last_calls.specs.LastCalls.{outputs};
 ghost use Rattle.merc_live.specs.Reads.{inputs};
-ghost use Rattle.merc_listing.specs.Listing.{behind, instruction_line, mode_in, mode_text, name_in, operands, places_in, places_of, procedure_text, spaced, target_text, word};
+ghost use Rattle.merc_listing.specs.Listing.{behind, call_slots, instruction_line, mode_text, name_in, operands, places_of, procedure_text, spaced, target_text, word};
 ghost use Rattle.merc_listing.specs.Parts.{slot, symbol_text};
 
 use crate::parts::{
-    comparison_text, operation_text, push_behind, push_name, push_number, push_places, push_slot,
-    push_slots, push_string, push_symbol,
+    comparison_text, operation_text, push_behind, push_mode, push_number, push_slot, push_slots,
+    push_symbol,
 };
 use merc_base::{Names, NoMemory, Text};
 use merc_code::{Instruction, Target};
@@ -20,7 +19,7 @@ use merc_value::text_of;
 use std::alloc::Global;
 
 /// What a listing is written from: the texts of names, and the predicates by their numbers.
-#[derive(Clone, Copy)]
+#[derive(Drop)]
 pub(crate) struct Known<'a> {
     pub alloc: Global,
     pub names: &'a Names,
@@ -61,14 +60,14 @@ pub(crate) fn word(instruction: &Instruction) -> &'static [u8]
 
 /// Puts the line of an instruction at a place behind a text. Given is the slot of the procedure's first mark.
 pub(crate) fn push_instruction(
-    known: Known<'_>,
+    known: &Known<'_>,
     marks: u128,
     place: usize,
     instruction: &Instruction,
     line: &mut Text,
 ) -> Result<(), NoMemory>
     requires { marks ≤ 18446744073709551616 }
-    ensures { OnOk result (line.new ≡ line.old ++ instruction_line known.names.now known.predicates.now marks place instruction.now) }
+    ensures { OnOk result (line.new ≡ line.old ++ instruction_line known.now.names.now known.now.predicates.now marks place instruction.now) }
 {
     line.push(b"  L")?;
     push_number(known.alloc, place as u128, line)?;
@@ -80,17 +79,23 @@ pub(crate) fn push_instruction(
 
 // Puts the operands of an instruction at a place behind a text.
 fn push_operands(
-    known: Known<'_>,
+    known: &Known<'_>,
     marks: u128,
     place: usize,
     instruction: &Instruction,
     line: &mut Text,
 ) -> Result<(), NoMemory>
     requires { marks ≤ 18446744073709551616 }
-    ensures { OnOk result (line.new ≡ line.old ++ spaced (operands known.names.now known.predicates.now marks place instruction.now)) }
+    ensures { OnOk result (line.new ≡ line.old ++ spaced (operands known.now.names.now known.now.predicates.now marks place instruction.now)) }
 {
     match instruction {
-        Instruction::Integer(to, number) => push_shape(known, *to, Symbol::Integer(*number), &[], line),
+        Instruction::Integer(to, number) => push_shape(
+            known,
+            *to,
+            Symbol::Integer(*number),
+            &[],
+            line,
+        ),
         Instruction::Text(to, text) => push_shape(known, *to, Symbol::Text(*text), &[], line),
         Instruction::Literal(whole, symbol) => push_shape(known, *whole, *symbol, &[], line),
         Instruction::Build(whole, symbol, arguments)
@@ -101,10 +106,20 @@ fn push_operands(
             push_slots(known.alloc, &[*one, *other], line)
         }
         Instruction::Arithmetic(operation, result, one, other) => {
-            push_operator(known.alloc, operation_text(*operation), &[*result, *one, *other], line)
+            push_operator(
+                known.alloc,
+                operation_text(*operation),
+                &[*result, *one, *other],
+                line,
+            )
         }
         Instruction::Compare(comparison, one, other) => {
-            push_operator(known.alloc, comparison_text(*comparison), &[*one, *other], line)
+            push_operator(
+                known.alloc,
+                comparison_text(*comparison),
+                &[*one, *other],
+                line,
+            )
         }
         Instruction::Raise(one) | Instruction::Wait(one) | Instruction::Signal(one) => {
             push_slot(known.alloc, one.number() as u128, line)
@@ -119,7 +134,7 @@ fn push_operands(
             push_slot(known.alloc, marks + mark.number() as u128, line)
         }
         Instruction::Call(procedure, arguments) => {
-            push_call(known, *procedure, arguments.as_slice(), line)
+            push_call(known, procedure, arguments.as_slice(), line)
         }
         Instruction::Fork(site) => push_site(known.alloc, *site, line),
         Instruction::Return | Instruction::Fail | Instruction::Answer(_) | Instruction::Close => {
@@ -130,13 +145,13 @@ fn push_operands(
 
 // Puts a variable's slot, a symbol and the slots of others behind a text.
 fn push_shape(
-    known: Known<'_>,
+    known: &Known<'_>,
     whole: Var,
     symbol: Symbol,
     arguments: &[Var],
     line: &mut Text,
 ) -> Result<(), NoMemory>
-    ensures { OnOk result (line.new ≡ line.old ++ spaced (slot whole ∷ symbol_text known.names.now symbol ∷ map slot arguments.now)) }
+    ensures { OnOk result (line.new ≡ line.old ++ spaced (slot whole ∷ symbol_text known.now.names.now symbol ∷ map slot arguments.now)) }
 {
     push_slot(known.alloc, whole.number() as u128, line)?;
     line.push(b" ")?;
@@ -159,12 +174,7 @@ fn push_operator(
 }
 
 // Puts the place behind a text that lies behind so many of the instructions that follow the one at this place.
-fn push_place(
-    alloc: Global,
-    place: usize,
-    skipped: usize,
-    line: &mut Text,
-) -> Result<(), NoMemory>
+fn push_place(alloc: Global, place: usize, skipped: usize, line: &mut Text) -> Result<(), NoMemory>
     ensures { OnOk result (line.new ≡ line.old ++ spaced (behind place skipped ∷ [])) }
 {
     line.push(b" ")?;
@@ -181,13 +191,13 @@ fn push_site(alloc: Global, site: Site, line: &mut Text) -> Result<(), NoMemory>
 
 // Puts the operands of a switch at a place behind a text.
 fn push_switch(
-    known: Known<'_>,
+    known: &Known<'_>,
     place: usize,
     whole: Var,
     targets: &[Target],
     line: &mut Text,
 ) -> Result<(), NoMemory>
-    ensures { OnOk result (line.new ≡ line.old ++ spaced (slot whole ∷ map (target_text known.names.now known.predicates.now place) targets.now)) }
+    ensures { OnOk result (line.new ≡ line.old ++ spaced (slot whole ∷ map (target_text known.now.names.now known.now.predicates.now place) targets.now)) }
 {
     push_slot(known.alloc, whole.number() as u128, line)?;
     for target in targets {
@@ -198,12 +208,12 @@ fn push_switch(
 
 // Puts a symbol behind a text, and where the switch at a place goes on for it.
 fn push_target(
-    known: Known<'_>,
+    known: &Known<'_>,
     place: usize,
     target: &Target,
     line: &mut Text,
 ) -> Result<(), NoMemory>
-    ensures { OnOk result (line.new ≡ line.old ++ spaced (target_text known.names.now known.predicates.now place target.now ∷ [])) }
+    ensures { OnOk result (line.new ≡ line.old ++ spaced (target_text known.now.names.now known.now.predicates.now place target.now ∷ [])) }
 {
     line.push(b" ")?;
     push_symbol(known.alloc, known.names, target.symbol, line)?;
@@ -213,41 +223,56 @@ fn push_target(
 
 // Puts the called procedure behind a text, the slots of the inputs, and those of the outputs behind a colon.
 fn push_call(
-    known: Known<'_>,
-    procedure: Procedure,
+    known: &Known<'_>,
+    procedure: &Procedure,
     arguments: &[Var],
     line: &mut Text,
 ) -> Result<(), NoMemory>
-    ensures { OnOk result (line.new ≡ line.old ++ spaced (procedure_text known.names.now known.predicates.now procedure ∷ (map slot (inputs (places_of known.names.now known.predicates.now procedure) arguments.now) ++ codes ":" ∷ map slot (outputs (places_of known.names.now known.predicates.now procedure) arguments.now)))) }
+    ensures { OnOk result (line.new ≡ line.old ++ spaced (procedure_text known.now.names.now known.now.predicates.now procedure.now ∷ call_slots (places_of known.now.predicates.now procedure.now) arguments.now)) }
 {
-    let declared = known.predicates.get(procedure.predicate.number());
-    let places = places_in(declared, procedure.mode);
+    let places = called_places(known.predicates, procedure);
     line.push(b" ")?;
-    push_name(known.alloc, name_in(known.names, declared), line)?;
-    push_places(places, line)?;
-    push_inputs(known.alloc, places, arguments, line)?;
-    line.push(b" :")?;
-    push_outputs(known.alloc, places, arguments, line)
+    push_mode(
+        known.alloc,
+        called_name(known.names, known.predicates, procedure),
+        places,
+        line,
+    )?;
+    push_call_slots(known.alloc, places, arguments, line)
 }
 
-// The places of a predicate's mode; none for one that is not there.
-fn places_in<'a>(declared: Option<&'a PredDecl>, mode: usize) -> &'a [Arg]
-    ensures { result.now ≡ places_in (mode_in (option_copied declared) mode) }
+// Puts the slots of a call's inputs behind a text, and those of its outputs behind a colon.
+fn push_call_slots(
+    alloc: Global,
+    places: &[Arg],
+    arguments: &[Var],
+    line: &mut Text,
+) -> Result<(), NoMemory>
+    ensures { OnOk result (line.new ≡ line.old ++ spaced (call_slots places.now arguments.now)) }
 {
-    match declared {
+    push_inputs(alloc, places, arguments, line)?;
+    line.push(b" :")?;
+    push_outputs(alloc, places, arguments, line)
+}
+
+// The places of a procedure; none for one that is not there.
+fn called_places<'a>(predicates: &'a [PredDecl], procedure: &Procedure) -> &'a [Arg]
+    ensures { result.now ≡ places_of predicates.now procedure.now }
+{
+    match predicates.get(procedure.predicate.number()) {
         None => &[],
-        Some(declared) => match declared.modes.as_slice().get(mode) {
+        Some(declared) => match declared.modes.as_slice().get(procedure.mode) {
             None => &[],
             Some(mode) => mode.args.as_slice(),
         },
     }
 }
 
-// The text of a predicate's name; none for one that is not there.
-fn name_in<'a>(names: &'a Names, declared: Option<&PredDecl>) -> &'a [u8]
-    ensures { result.now ≡ name_in names.now (option_copied declared) }
+// The text of the name of a procedure's predicate; none for one that is not there.
+fn called_name<'a>(names: &'a Names, predicates: &[PredDecl], procedure: &Procedure) -> &'a [u8]
+    ensures { result.now ≡ name_in names.now (slice_get predicates.now procedure.now.predicate) }
 {
-    match declared {
+    match predicates.get(procedure.predicate.number()) {
         None => b"",
         Some(declared) => text_of(names, declared.name),
     }
@@ -264,12 +289,17 @@ fn push_inputs(
 {
     let mut places = places;
     let mut arguments = arguments;
-    while let ([place, others @ ..], [argument, rest @ ..]) = (places, arguments) {
-        if matches!(place, Arg::Input) {
-            push_slot(alloc, argument.number() as u128, line)?;
+    while let [place, others @ ..] = places {
+        match arguments {
+            [] => return Ok(()),
+            [argument, rest @ ..] => {
+                if matches!(place, Arg::Input) {
+                    push_slot(alloc, argument.number() as u128, line)?;
+                }
+                arguments = rest;
+            }
         }
         places = others;
-        arguments = rest;
     }
     Ok(())
 }
@@ -285,12 +315,17 @@ fn push_outputs(
 {
     let mut places = places;
     let mut arguments = arguments;
-    while let ([place, others @ ..], [argument, rest @ ..]) = (places, arguments) {
-        if matches!(place, Arg::Output) {
-            push_slot(alloc, argument.number() as u128, line)?;
+    while let [place, others @ ..] = places {
+        match arguments {
+            [] => return Ok(()),
+            [argument, rest @ ..] => {
+                if matches!(place, Arg::Output) {
+                    push_slot(alloc, argument.number() as u128, line)?;
+                }
+                arguments = rest;
+            }
         }
         places = others;
-        arguments = rest;
     }
     Ok(())
 }

@@ -2,7 +2,7 @@
 ghost use Rattle.std.specs.Prelude.{◌≡◌, ◌≤◌, ◌++◌, [], ◌∷◌, codes, map, max, length, IfOk, OnOk};
 ghost use Rattle.std.specs.Fmt.{decimal, signed_decimal};
 ghost use Rattle.merc_value.specs.Text.{text_at, name_text};
-ghost use Rattle.merc_listing.specs.Listing.{behind, spaced};
+ghost use Rattle.merc_listing.specs.Listing.{behind, mode_text, spaced};
 ghost use Rattle.merc_listing.specs.Parts.{beyond, beyond_named, comparison_text, constructor_text, first_mark, label, more_places, named, operation_text, place_text, places_text, slot, string_text, symbol_text};
 
 use merc_base::{Name, Names, NoMemory, Text};
@@ -28,11 +28,7 @@ pub(crate) fn push_slot(alloc: Global, number: u128, line: &mut Text) -> Result<
 }
 
 // Puts the slots of variables behind a text.
-pub(crate) fn push_slots(
-    alloc: Global,
-    variables: &[Var],
-    line: &mut Text,
-) -> Result<(), NoMemory>
+pub(crate) fn push_slots(alloc: Global, variables: &[Var], line: &mut Text) -> Result<(), NoMemory>
     ensures { OnOk result (line.new ≡ line.old ++ spaced (map slot variables.now)) }
 {
     for variable in variables {
@@ -121,8 +117,8 @@ pub(crate) fn first_mark(procedure: &CompiledProcedure) -> u128
     first
 }
 
-/// Puts a name behind a text, within quotes unless it is plain.
-pub(crate) fn push_name(alloc: Global, name: &[u8], line: &mut Text) -> Result<(), NoMemory>
+// Puts a name behind a text, within quotes unless it is plain.
+fn push_name(alloc: Global, name: &[u8], line: &mut Text) -> Result<(), NoMemory>
     ensures { OnOk result (line.new ≡ line.old ++ name_text name.now) }
 {
     if is_plain(name) {
@@ -133,12 +129,7 @@ pub(crate) fn push_name(alloc: Global, name: &[u8], line: &mut Text) -> Result<(
 }
 
 // Puts a text within quotes behind another.
-pub(crate) fn push_string(
-    alloc: Global,
-    names: &Names,
-    text: Name,
-    line: &mut Text,
-) -> Result<(), NoMemory>
+fn push_string(alloc: Global, names: &Names, text: Name, line: &mut Text) -> Result<(), NoMemory>
     ensures { OnOk result (line.new ≡ line.old ++ string_text names.now text) }
 {
     line.push(quoted(alloc, b'"', text_of(names, text))?.bytes())
@@ -214,8 +205,8 @@ fn place_text(place: Arg) -> &'static [u8]
     }
 }
 
-/// Puts the places of a mode behind a text, in brackets; nothing where there is none.
-pub(crate) fn push_places(places: &[Arg], line: &mut Text) -> Result<(), NoMemory>
+// Puts the places of a mode behind a text, in brackets; nothing where there is none.
+fn push_places(places: &[Arg], line: &mut Text) -> Result<(), NoMemory>
     ensures { OnOk result (line.new ≡ line.old ++ places_text places.now) }
 {
     match places {
@@ -227,6 +218,19 @@ pub(crate) fn push_places(places: &[Arg], line: &mut Text) -> Result<(), NoMemor
             line.push(b")")
         }
     }
+}
+
+/// Puts a predicate's name and the places of a mode behind a text.
+pub(crate) fn push_mode(
+    alloc: Global,
+    name: &[u8],
+    places: &[Arg],
+    line: &mut Text,
+) -> Result<(), NoMemory>
+    ensures { OnOk result (line.new ≡ line.old ++ mode_text name.now places.now) }
+{
+    push_name(alloc, name, line)?;
+    push_places(places, line)
 }
 
 // Puts places behind a text, each behind a comma and a blank.
