@@ -1,7 +1,7 @@
 -- What a worker has in hand, and what is known of it.
-use Rattle.std.specs.Prelude.{◌≡◌, ℕ, suc, ◌+◌, ◌-◌, Bool, true, List, [], Option, Some, None, slice_get}
+use Rattle.std.specs.Prelude.{◌≡◌, ℕ, suc, ◌+◌, ◌-◌, Bool, true, List, []}
 use Rattle.std.specs.declared.boxed.Box.{Box}
-use Rattle.merc_meaning.specs.Trace.{Env}
+use Rattle.merc_meaning.specs.Trace.{Env, Run, Answer as RunAnswer}
 use Rattle.merc_value.specs.Block.{BlockData}
 use Rattle.merc_script.specs.declared.outcome.Outcome.{Outcome}
 use Rattle.merc_script.specs.Places.{Place}
@@ -12,7 +12,7 @@ use Rattle.merc_board.specs.declared.board.Board as Board
 use Rattle.merc_board.specs.declared.branch.Branch.{Branch}
 use Rattle.merc_board.specs.Going.{Ticked}
 use Rattle.merc_board.specs.Boarding.{IsGiven, MayEnd}
-use Rattle.merc_carried.specs.Runs.{answers_of}
+use Rattle.merc_carried.specs.Runs.{IsLeftOf}
 use Rattle.merc_pool.specs.declared.load.Asked as Asked
 use Rattle.merc_pool.specs.declared.load.Carried.{Carried}
 use Rattle.merc_pool.specs.declared.hand.Hand.{Hand}
@@ -63,7 +63,7 @@ module _ {N B H S W G C : Type 0} (n : Asked.Ghosts N) (b : Board.Ghosts B (Carr
     pub before : ℕ
     pub answered : HasAnswered branch.load.machine values
     pub counted : branch.load.given ≡ suc before
-    pub is_next : slice_get (answers_of n.run) before ≡ Some values
+    pub is_next : (behind : Run) × IsLeftOf n.run before (made_by branch.load.machine) (RunAnswer values behind)
 
   abbrev pub CameTo : B → S → Branch (Carried N) H → Stop → Type 0
   CameTo board seat branch Answer = IsAtAnswer board seat branch

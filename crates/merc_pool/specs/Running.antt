@@ -1,7 +1,7 @@
 -- What a slice of a branch comes to.
-use Rattle.std.specs.Prelude.{◌≡◌, ◌≢◌, ℕ, suc, ◌+◌, ◌-◌, ◌≤◌, List, [], Option, Some, slice_get}
+use Rattle.std.specs.Prelude.{◌≡◌, ◌≢◌, ℕ, suc, ◌+◌, ◌-◌, ◌≤◌, List, []}
 use Rattle.merc_value.specs.Value.{Value}
-use Rattle.merc_meaning.specs.Trace.{Env, Run, RunEnd}
+use Rattle.merc_meaning.specs.Trace.{Env, Run, RunEnd, Answer as RunAnswer}
 use Rattle.merc_meaning.specs.Counting.{counted}
 use Rattle.merc_script.specs.declared.outcome.Outcome.{Outcome}
 use Rattle.merc_script.specs.Script.{Script}
@@ -16,7 +16,7 @@ use Rattle.merc_machine.specs.Coming.{MeetsAt}
 use Rattle.merc_machine.specs.Running.{HasAnswered}
 use Rattle.merc_board.specs.Rights.{Rights}
 use Rattle.merc_board.specs.Going.{Ticked}
-use Rattle.merc_carried.specs.Runs.{answers_of}
+use Rattle.merc_carried.specs.Runs.{IsLeftOf}
 use Rattle.merc_pool.specs.declared.load.Carried.{Carried}
 use Rattle.merc_pool.specs.Carrying.{made_by, IsOn, HasStopped, Stands}
 
@@ -27,7 +27,7 @@ module _ {N : Type 0} (sites : List SiteInfo) (root : Script) (whole : Run) wher
     pub course : RunCourse
     pub rest : Script
     pub answered : HasAnswered load.machine values
-    pub is_next : at.name ≡ [] → slice_get (answers_of whole) load.given ≡ Some values
+    pub is_next : at.name ≡ [] → (behind : Run) × IsLeftOf whole load.given (made_by load.machine) (RunAnswer values behind)
     pub on : IsOn sites root whole (record load { given = suc load.given }) rights at course rest
 
   -- The machine stands at an instruction at which it meets others so.
@@ -49,7 +49,7 @@ module _ {N : Type 0} (sites : List SiteInfo) (root : Script) (whole : Run) wher
   StoppedAt load rights at (AtWaitStop variable) = (load.stop ≡ AtWaitStop variable) × IsMeeting load rights at (AtWait variable) (Wait variable)
   StoppedAt load rights at (AtSignalStop variable) = (value : Value) × IsMeeting load rights at (AtSignal variable value) (Signal variable)
   StoppedAt load rights at SliceOver = Stands sites root whole load rights at
-  StoppedAt load rights at NoMemoryStop = Unit {0}
+  StoppedAt load rights at NoMemoryStop = ⊥
 
   -- From one place it has come to another, by so many steps of a slice, and has stopped so.
   pub record HasRun (slice : ℕ) (old load : Carried N) (rights : Rights) (from : Place) (stop : Stop) : Type 0 where
