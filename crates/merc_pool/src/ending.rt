@@ -20,7 +20,7 @@ pub(crate) fn stopped<'a, N: Asked + Send, B: Board<Carried<'a, N>>>(
     stop: Stop,
 ) -> Hand<Carried<'a, N>, B::Hold>
     requires { (board : B) × (seat : B.Seat) × HasComeTo N.Asked B.Board board seat branch.value stop }
-    ensures { (board : B) (seat : B.Seat) → HasComeTo N.Asked B.Board board seat branch.value stop → HandIs N.Asked B.Board board seat result }
+    ensures { (board : B) (seat : B.Seat) → HasComeTo N.Asked B.Board board seat branch.entry.value stop → HandIs N.Asked B.Board board seat result }
 {
     if B::is_root(&branch.hold) {
         return came::<N, B>(branch, stop);
@@ -35,7 +35,7 @@ pub(crate) fn came<'a, N: Asked + Send, B: Board<Carried<'a, N>>>(
     stop: Stop,
 ) -> Hand<Carried<'a, N>, B::Hold>
     requires { (board : B) × (seat : B.Seat) × RootCameTo N.Asked B.Board board seat branch.value stop }
-    ensures { (board : B) (seat : B.Seat) → RootCameTo N.Asked B.Board board seat branch.value stop → HandIs N.Asked B.Board board seat result }
+    ensures { (board : B) (seat : B.Seat) → RootCameTo N.Asked B.Board board seat branch.entry.value stop → HandIs N.Asked B.Board board seat result }
 {
     match stop {
         Stop::Answer => match branch.load.given.checked_add(1) {
@@ -112,7 +112,7 @@ fn go_behind<'a, N: Asked + Send, B: Board<Carried<'a, N>>>(
     outcome: Outcome,
 ) -> Hand<Carried<'a, N>, B::Hold>
     requires { (board : B) × (seat : B.Seat) × IsBehindFork N.Asked B.Board board seat parent.value outcome }
-    ensures { (board : B) (seat : B.Seat) → IsBehindFork N.Asked B.Board board seat parent.value outcome → HandIs N.Asked B.Board board seat result }
+    ensures { (board : B) (seat : B.Seat) → IsBehindFork N.Asked B.Board board seat parent.entry.value outcome → HandIs N.Asked B.Board board seat result }
 {
     match outcome {
         Outcome::NoMemory => Hand::Ends(parent, Outcome::NoMemory),

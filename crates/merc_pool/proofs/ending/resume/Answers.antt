@@ -1,0 +1,2 @@
+use Rattle.merc_pool.proofs.Ends.{can-end}
+use Rattle.merc_pool.proofs.ending.resume.Goals as goal
