@@ -1,5 +1,5 @@
 -- How branches end, and how their parents go on.
-use Rattle.std.proofs.Common.{◌≡◌, ◌≢◌, ℕ, zero, suc, ◌+◌, List, [], Option, Some, None, refl, ap, sym, ◌∙◌, subst, arith}
+use Rattle.std.proofs.Common.{◌≡◌, ◌≢◌, ℕ, zero, suc, ◌+◌, ◌⊎◌, inl, inr, Bool, true, false, List, [], Option, Some, None, refl, ap, sym, ◌∙◌, subst, arith}
 use Rattle.merc_meaning.specs.Trace.{Run}
 use Rattle.merc_script.specs.declared.outcome.Outcome.{Outcome}
 use Rattle.merc_script.specs.declared.outcome.Outcome.TheVariants.{Ok as Fine, Raise, Limit, Starved, NoMemory}
@@ -13,15 +13,14 @@ use Rattle.merc_machine.specs.declared.running.Stop.{Stop}
 use Rattle.merc_machine.specs.declared.running.Stop.TheVariants.{Answer, Ended, Raised, LimitPassed, Starved as StarvedStop, AtFork, AtWait, AtSignal, SliceOver, NoMemory as NoMemoryStop}
 use Rattle.merc_board.specs.declared.board.Board as Board
 use Rattle.merc_board.specs.declared.branch.Branch.{Branch}
-use Rattle.merc_board.specs.declared.branch.Resumed.TheVariants.{Outcome as JoinedTo}
 use Rattle.merc_board.specs.Rights.{Rights}
 use Rattle.merc_board.specs.Going.{next, Ticked}
-use Rattle.merc_board.specs.Boarding.{MayEnd, at_end, lost_at, IsJoined, IsResumed}
+use Rattle.merc_board.specs.Boarding.{MayEnd, at_end, lost, lost_at, starves, IsJoined}
 use Rattle.merc_pool.specs.declared.load.Asked as Asked
 use Rattle.merc_pool.specs.declared.load.Carried.{Carried}
 use Rattle.merc_pool.specs.Carrying.{made_by, IsCounted, IsReported, Stands, goes_on, has_stopped, ForkedAt}
 use Rattle.merc_pool.specs.Running.{StoppedAt}
-use Rattle.merc_pool.specs.Ending.{IsOutcomeOf, IsJoinedFork, IsBehindFork}
+use Rattle.merc_pool.specs.Ending.{IsOutcomeOf, IsJoinedFork}
 use Rattle.merc_pool.specs.Hands.{CanEnd, CameTo, HasComeTo, HasPassed, IsAtAnswer, IsLive, IsParent, IsRooted, RootCameTo}
 
 module _ {N : Type 0} (sites : List SiteInfo) (root : Script) (whole : Run) where
@@ -58,6 +57,10 @@ module _ {N : Type 0} (sites : List SiteInfo) (root : Script) (whole : Run) wher
   stopped-left load rights at (AtSignal variable) there = (_, there.1.on.left)
   stopped-left load rights at SliceOver there = stands-left load rights at there
   stopped-left load rights at NoMemoryStop there = absurd there
+
+-- a worker of which is not known that it may run
+pub never-allowed : {A : Type 0} → false ≡ true → A
+never-allowed is = absurd (cc)
 
 -- no Tick is passed
 pub none-ticked : (at : Place) (rest : Script) → left_of at ≡ Some rest → Ticked at 0 at
@@ -142,39 +145,53 @@ module _ {N B H S W G C : Type 0} (n : Asked.Ghosts N) (b : Board.Ghosts B (Carr
   came-to branch SliceOver other came = tt
   came-to branch NoMemoryStop other came = tt
 
-  -- a parent behind the call that says what its conjuncts came to
-  pub behind-fork : (before : S) (parent : Branch (Carried N) H) (hold : H) (outcome : Outcome) → IsParent n b board before parent → b.rights hold ≡ b.rights parent.hold
+  -- Behind the call that says what its conjuncts came to, a parent ends for want of memory, or as one that starved.
+  pub parent-ends : (before : S) (parent : Branch (Carried N) H) (hold : H) (outcome : Outcome) → (is : IsParent n b board before parent)
       → ((at : Place) (limit : ℕ) (cells : List Cell) (moves : List Move) (children : Children) (rest : Script) → b.holds board before parent.hold at → left_of at ≡ Some (ForkThen limit cells moves children rest)
-          → IsResumed (b.own board seat hold) (b.runs board seat hold) (b.starved board seat hold) at limit children (JoinedTo outcome))
-      → IsBehindFork n b board seat (record parent { hold = hold }) outcome
-  behind-fork before parent hold outcome is same resumed =
+          → IsJoined (b.own board seat hold) (b.runs board seat hold) (b.starved board seat hold) at limit children outcome)
+      → (outcome ≡ NoMemory) ⊎ (outcome ≡ Starved) → CanEnd n b board seat (record parent { hold = hold }) outcome
+  parent-ends before parent hold outcome is came (inl lost_it) =
       let f = is.2 in
-      record {
-        at = is.0;
-        fork = record {
-          site = f.site;
-          info = f.info;
-          before = f.before;
-          limit = f.limit;
-          cells = f.cells;
-          moves = f.moves;
-          children = f.children;
-          forked = f.forked;
-          next = f.next;
-          rest = f.rest;
-          found = f.found;
-          handed = same ∙ f.handed;
-          stopped = f.stopped;
-          meets = f.meets;
-          on = f.on;
-          reported = f.reported;
-        };
-        came = resumed is.0 f.limit f.cells f.moves f.children f.rest is.1 f.on.left;
-      }
+      let there = came is.0 f.limit f.cells f.moves f.children f.rest is.1 f.on.left in
+      subst (λ (o : Outcome). CanEnd n b board seat (record parent { hold = hold }) o) (sym lost_it)
+        (lost (subst (λ (o : Outcome). IsJoined (b.own board seat hold) (b.runs board seat hold) (b.starved board seat hold) is.0 f.limit f.children o) lost_it there))
+  parent-ends before parent hold outcome is came (inr starves_now) =
+      let f = is.2 in
+      let there = came is.0 f.limit f.cells f.moves f.children f.rest is.1 f.on.left in
+      subst (λ (o : Outcome). CanEnd n b board seat (record parent { hold = hold }) o) (sym starves_now)
+        (starves (subst (λ (o : Outcome). IsJoined (b.own board seat hold) (b.runs board seat hold) (b.starved board seat hold) is.0 f.limit f.children o) starves_now there))
 
-  -- .. of an outcome behind which the machine can go on
-  pub joined-there : (parent : Branch (Carried N) H) (outcome : Outcome) → outcome ≢ NoMemory → outcome ≢ Starved → (behind : IsBehindFork n b board seat parent outcome)
-      → IsJoinedFork n.sites n.root n.run parent.load (b.rights parent.hold) behind.at outcome × b.own board seat parent.hold (next behind.at)
-  joined-there parent outcome kept fed behind =
-      let joins = joined-truly (b.own board seat parent.hold) (b.runs board seat parent.hold) (b.starved board seat parent.hold) behind.at behind.fork.limit behind.fork.children outcome kept fed behind.came in
-      (record { fork = behind.fork; joins = joins.0; has_memory = kept; is_fed = fed }, joins.1)
+  -- .. or goes on that says what its conjuncts came to
+  pub parent-joins : (before : S) (parent : Branch (Carried N) H) (hold : H) (outcome : Outcome) → (is : IsParent n b board before parent) → b.rights hold ≡ b.rights parent.hold
+      → ((at : Place) (limit : ℕ) (cells : List Cell) (moves : List Move) (children : Children) (rest : Script) → b.holds board before parent.hold at → left_of at ≡ Some (ForkThen limit cells moves children rest)
+          → IsJoined (b.own board seat hold) (b.runs board seat hold) (b.starved board seat hold) at limit children outcome)
+      → outcome ≢ NoMemory → outcome ≢ Starved → IsJoinedFork n.sites n.root n.run parent.load (b.rights hold) is.0 outcome × b.own board seat hold (next is.0)
+  parent-joins before parent hold outcome is same came kept fed =
+      let f = is.2 in
+      let joins = joined-truly (b.own board seat hold) (b.runs board seat hold) (b.starved board seat hold) is.0 f.limit f.children outcome kept fed (came is.0 f.limit f.cells f.moves f.children f.rest is.1 f.on.left) in
+      (
+        record {
+          fork = record {
+            site = f.site;
+            info = f.info;
+            before = f.before;
+            limit = f.limit;
+            cells = f.cells;
+            moves = f.moves;
+            children = f.children;
+            forked = f.forked;
+            next = f.next;
+            rest = f.rest;
+            found = f.found;
+            handed = same ∙ f.handed;
+            stopped = f.stopped;
+            meets = f.meets;
+            on = f.on;
+            reported = f.reported;
+          };
+          joins = joins.0;
+          has_memory = kept;
+          is_fed = fed;
+        },
+        joins.1,
+      )

@@ -3,7 +3,7 @@ ghost use Rattle.merc_board.specs.Going.{next};
 ghost use Rattle.merc_board.specs.Rights.{Rights};
 ghost use Rattle.merc_script.specs.Places.{Place};
 ghost use Rattle.merc_pool.specs.Carrying.{IsCounted, StandsAt};
-ghost use Rattle.merc_pool.specs.Ending.{IsBehindFork, IsJoinedFork, IsOutcomeOf};
+ghost use Rattle.merc_pool.specs.Ending.{IsJoinedFork, IsOutcomeOf};
 ghost use Rattle.merc_pool.specs.Hands.{CanEnd, HandIs, HasComeTo, IsAllowed, IsAtWork, IsParent, RootCameTo};
 
 use crate::hand::Hand;
@@ -99,21 +99,11 @@ fn resume<'a, N: Asked + Send, B: Board<Carried<'a, N>>, R: Wait>(
     ensures { IsAtWork N.Asked B.Board shared.now.board worker.new result }
 {
     worker.may_run = false;
-    match shared.board.resume(rt, &mut worker.seat, &mut parent.hold) {
-        Resumed::Outcome(outcome) => go_behind::<N, B>(parent, outcome),
+    let outcome = match shared.board.resume(rt, &mut worker.seat, &mut parent.hold) {
+        Resumed::Outcome(outcome) => outcome,
         // No board asks for it as long as none cuts branches short.
-        Resumed::Restart => Hand::Ends(parent, Outcome::NoMemory),
-    }
-}
-
-// What becomes of a parent whose conjuncts came to this outcome.
-fn go_behind<'a, N: Asked + Send, B: Board<Carried<'a, N>>>(
-    mut parent: Box<Branch<Carried<'a, N>, B::Hold>>,
-    outcome: Outcome,
-) -> Hand<Carried<'a, N>, B::Hold>
-    requires { (board : B) × (seat : B.Seat) × IsBehindFork N.Asked B.Board board seat parent.value outcome }
-    ensures { (board : B) (seat : B.Seat) → IsBehindFork N.Asked B.Board board seat parent.entry.value outcome → HandIs N.Asked B.Board board seat result }
-{
+        Resumed::Restart => return Hand::Ends(parent, Outcome::NoMemory),
+    };
     match outcome {
         Outcome::NoMemory => Hand::Ends(parent, Outcome::NoMemory),
         Outcome::Starved => Hand::Ends(parent, Outcome::Starved),
