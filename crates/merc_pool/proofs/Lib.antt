@@ -4,3 +4,4 @@ pub mod LeftRuns
 pub mod JoinedSteps
 pub mod BehindForks
 pub mod Ends
+pub mod Told
