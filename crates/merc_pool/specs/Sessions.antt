@@ -13,6 +13,7 @@ use Rattle.merc_pool.specs.declared.next.Next.{Next}
 use Rattle.merc_pool.specs.declared.next.Next.TheVariants.{Answer, Done, Raised, LimitPassed, NoMemory}
 use Rattle.merc_pool.specs.Carrying.{made_by, IsPlain}
 use Rattle.merc_pool.specs.Shares.{AreShares}
+use Rattle.merc_pool.specs.Telling.{IsLast}
 use Rattle.merc_pool.specs.Hands.{CameTo, IsAllowed, IsRooted}
 use Rattle.merc_pool.specs.Working.{AllAtWork}
 
@@ -114,6 +115,7 @@ module _ {N B H S W G C P : Type 0} (n : Asked.Ghosts N) (b : Board.Ghosts B (Ca
     pub others_work : AllAtWork n b shared.board others
     pub ready : over ≡ None → IsHome shared.board given home × (len < room)
     pub tallied : over ≡ None → IsPlain n.root → IsHomeTallied home
+    pub last : (stop : Stop) → over ≡ Some stop → IsLast stop
 
 -- what is told of a session: how many answers it has given, the stop that it tells again, and the steps that were counted of the root
 pub record SessionState : Type 0 where

@@ -1,13 +1,12 @@
 //! Forks, and branches that are found.
-ghost use Rattle.std.specs.Prelude.{◌≡◌, ℕ, List, Some, IfOk};
+ghost use Rattle.std.specs.Prelude.{IfOk};
 ghost use Rattle.merc_code.specs.declared.instruction.Instruction.TheVariants.{Fork};
-ghost use Rattle.merc_course.specs.Course.{AtFork as ForkMeeting, Courses, Meets, Reply, RunCourse};
-ghost use Rattle.merc_meaning.specs.Trace.{RunEnd};
+ghost use Rattle.merc_course.specs.Course.{RunCourse};
 ghost use Rattle.merc_machine.specs.Coming.{MeetsAt};
 ghost use Rattle.merc_machine.specs.Running.{Means};
 ghost use Rattle.merc_machine.specs.declared.running.Stop.TheVariants.{AtFork};
-ghost use Rattle.merc_pool.specs.Forking.{AreChildren, IsFoundBranch, count_courses};
-ghost use Rattle.merc_pool.specs.Hands.{HasComeTo, HandIs, IsAllowed, IsAtWork};
+ghost use Rattle.merc_pool.specs.Forking.{AreChildren, IsFoundBranch};
+ghost use Rattle.merc_pool.specs.Hands.{HandIs, HasComeTo, IsAllowed, IsAtWork};
 ghost use Rattle.merc_pool.specs.Shares.{AreShares};
 
 use crate::hand::Hand;
@@ -69,12 +68,15 @@ fn start<'a, N: Asked>(
     children: usize,
 ) -> Result<Vec<Carried<'a, N>>, NoMemory>
     requires at { MeetsAt machine.now (Fork site) }
-    requires forked { (forked : Courses RunEnd) × (next : Reply → RunCourse) × Means machine.now (Meets (ForkMeeting site.number) forked next) × (count_courses forked ≡ children) }
-    ensures { IfOk result (λ loads. (forked : Courses RunEnd) (next : Reply → RunCourse) → Means machine.now (Meets (ForkMeeting site.number) forked next) → count_courses forked ≡ children
-        → AreChildren machine.now forked loads.items) }
+    requires means { (course : RunCourse) × Means machine.now course }
+    ensures { IfOk result (λ loads. AreChildren machine.now site children loads.items) }
 {
     let mut loads = Vec::new(alloc);
     for number in 0..children {
+        // each conjunct of a site is there
+        if !machine.has_child(site, number) {
+            return Err(NoMemory);
+        }
         let child = machine.child(alloc, site, number)?;
         let enters = number_of(number)?;
         loads.push(Carried {

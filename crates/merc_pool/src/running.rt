@@ -23,7 +23,10 @@ pub(crate) fn run_slice<'a, N: Asked, G: Gate>(
     ensures counts { CountsSlice load.old load.new ticks.old ticks.new result }
     ensures own { load.new.ticks ≡ load.old.ticks }
 {
-    todo!()
+    pass_gate(gate, &mut load.enters);
+    let stop = load.machine.run(slice, ticks);
+    load.stop = stop;
+    stop
 }
 
 /// The same of the root, whose load counts its steps.
@@ -37,7 +40,10 @@ pub(crate) fn run_root_slice<'a, N: Asked, G: Gate>(
     ensures runs { (rights : Rights) (from : Place) → Stands N.sites N.root N.run load.old rights from → RunsTo N.sites N.root N.run slice load.old load.new rights from result }
     ensures counts { CountsSlice load.old load.new load.old.ticks load.new.ticks result }
 {
-    todo!()
+    let mut ticks = mem::replace(&mut load.ticks, Ticks::new());
+    let stop = run_slice(gate, slice, &mut ticks, load);
+    load.ticks = ticks;
+    stop
 }
 
 // Enters the gate for a conjunct that has not begun, which then has.

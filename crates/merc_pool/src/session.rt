@@ -1,13 +1,13 @@
 //! A session: the answers of what is asked, one after the other.
-ghost use Rattle.std.specs.Prelude.{◌≡◌, ◌<◌, ◌≤◌, ℕ, Bool, true, All, IfOk, IfSome, None, Some, vec_capacity, vec_len};
+ghost use Rattle.std.specs.Prelude.{◌≡◌, ◌<◌, ◌≤◌, true, false, All, IfOk, IfSome, None, Some, vec_capacity, vec_len};
 ghost use Rattle.merc_machine.specs.declared.running.Stop.{Stop};
 ghost use Rattle.merc_meaning.specs.Counting.{counted};
 ghost use Rattle.merc_pool.specs.Asking.{Asks};
 ghost use Rattle.merc_pool.specs.Carrying.{IsPlain};
 ghost use Rattle.merc_pool.specs.Hands.{IsAllowed};
-ghost use Rattle.merc_pool.specs.Sessions.{AloneHand, BackHand, IsBack, IsHome, IsTallied, IsTalliedAlone, RootHand};
+ghost use Rattle.merc_pool.specs.Sessions.{AloneHand, IsBack, IsCame, IsHome, IsHomeTallied, IsTallied, IsTalliedAlone, RootHand, steps_of, steps_told};
 ghost use Rattle.merc_pool.specs.Shares.{AreShares};
-ghost use Rattle.merc_pool.specs.Telling.{CountsNext, NextIs, Tells, given_after, last_of};
+ghost use Rattle.merc_pool.specs.Telling.{CountsNext, IsLast, NextIs, Tells, given_after, last_of};
 ghost use Rattle.merc_pool.specs.Working.{AllAtWork, AllDone};
 
 use crate::desk::Desk;
@@ -31,6 +31,9 @@ use std::marker::{Model, PhantomData};
 use std::mem;
 use std::sync::Wait;
 use std::thread::Threads;
+
+// The most steps that the root makes at once before its first fork: no board is told of them.
+const ALONE: u32 = u32::MAX;
 
 /// A session over a board. It is seen as the number of answers that it has given, the stop that it tells again, and the steps that
 /// it has counted of the root.
@@ -76,7 +79,24 @@ impl<'a, N: Asked + Send, B: Board<Carried<'a, N>>> Session<'a, N, B> {
         requires asks { Asks program.now N.sites limit N.root N.run }
         ensures { IfOk result (λ session. session ≡ record { given = 0; over = None; steps = 0 }) }
     {
-        todo!()
+        let mut board = board;
+        let machine = Machine::start(alloc, program, limit)?;
+        let sites = shares_of(alloc, plan)?;
+        let Opened { home, others, root } = board.open(alloc, load_of(machine))?;
+        let others = idle_slots::<N, B>(alloc, others)?;
+        Ok(Session {
+            shared: Shared {
+                board,
+                sites,
+                desk: Desk::new(),
+                alloc,
+            },
+            others,
+            home: Some(slot_of(home, Hand::Runs(root))),
+            over: None,
+            given: 0,
+            ticks: Ticks::new(),
+        })
     }
 
     /// The next answer, or how the run ends: exactly the next of the run that is asked. Memory may be refused at any place.
@@ -88,14 +108,143 @@ impl<'a, N: Asked + Send, B: Board<Carried<'a, N>>> Session<'a, N, B> {
         ensures counted { self.old.over ≡ None → IsPlain N.root → CountsNext N.run self.old.given self.new.steps result }
         ensures again { (stop : Stop) → self.old.over ≡ Some stop → Tells stop result × (self.new ≡ self.old) }
     {
-        todo!()
+        if let Some(stop) = self.over {
+            return told_again(stop);
+        }
+        let Some(home) = self.home.take() else {
+            unreachable!()
+        };
+        let (next, back) = run_on(
+            rt,
+            gate,
+            &self.shared,
+            &mut self.others,
+            &mut self.given,
+            &mut self.ticks,
+            home,
+        );
+        self.home = back;
+        self.over = next.last();
+        next
     }
 
     /// Ends a session, and counts the steps that its workers have made. Takes no memory.
     pub fn close(self, into: &mut Ticks)
         ensures { counted into.old self.steps ≤ into.new }
     {
-        todo!()
+        let Session {
+            others,
+            home,
+            mut ticks,
+            ..
+        } = self;
+        into.take_in(&mut ticks);
+        if let Some(slot) = home {
+            count_slot::<N, B>(into, slot);
+        }
+        for slot in others {
+            count_slot::<N, B>(into, slot);
+        }
+    }
+}
+
+// Takes over what a worker has counted, and what the root has that it has in hand.
+fn count_slot<'a, N: Asked + Send, B: Board<Carried<'a, N>>>(
+    into: &mut Ticks,
+    slot: Slot<Carried<'a, N>, B::Hold, B::Seat, (B::WaitRight, B::SignalRight, B::Children)>,
+)
+    ensures { counted into.old (steps_of 0 slot.hand) ≤ into.new }
+{
+    let Slot {
+        mut worker, hand, ..
+    } = slot;
+    if let Hand::Runs(mut branch) = hand {
+        into.take_in(&mut branch.load.ticks);
+    }
+    into.take_in(&mut worker.ticks);
+}
+
+// What a machine carries that is to run the root.
+fn load_of<'a, N: Asked>(machine: Machine<'a>) -> Carried<'a, N>
+    ensures { (result.machine ≡ machine) × (result.given ≡ 0) × (result.reported ≡ 0) × (result.ticks ≡ 0) }
+{
+    Carried {
+        machine,
+        stop: Stop::SliceOver,
+        given: 0,
+        reported: 0,
+        enters: 0,
+        ticks: Ticks::new(),
+        asked: PhantomData,
+    }
+}
+
+// A worker that has counted nothing, with what it has in hand.
+fn slot_of<L: Drop, H: Drop, S: Drop, P: Drop>(seat: S, hand: Hand<L, H>) -> Slot<L, H, S, P>
+    ensures { (result.worker.seat ≡ seat) × (result.worker.may_run ≡ false) × (result.hand ≡ hand) }
+{
+    Slot {
+        worker: Worker {
+            seat,
+            ticks: Ticks::new(),
+            may_run: false,
+        },
+        hand,
+        kinds: PhantomData,
+    }
+}
+
+// Runs the root up to its next stop. What that says, and the worker that has the root.
+fn run_on<
+    'a,
+    N: Asked + Send,
+    B: Board<Carried<'a, N>>,
+    G: Gate + Sync,
+    R: Threads + Wait + Sync,
+>(
+    rt: &R,
+    gate: &G,
+    shared: &Shared<B>,
+    others: &mut Vec<Slot<Carried<'a, N>, B::Hold, B::Seat, (B::WaitRight, B::SignalRight, B::Children)>>,
+    given: &mut u64,
+    ticks: &mut Ticks,
+    home: Slot<Carried<'a, N>, B::Hold, B::Seat, (B::WaitRight, B::SignalRight, B::Children)>,
+) -> (
+    Next,
+    Option<Slot<Carried<'a, N>, B::Hold, B::Seat, (B::WaitRight, B::SignalRight, B::Children)>>,
+)
+    requires sites { AreShares N.sites shared.now.sites.items }
+    requires others { AllAtWork N.Asked B.Board shared.now.board others.old.items }
+    requires room { vec_len others.old < vec_capacity others.old }
+    requires root { RootHand N.Asked B.Board shared.now.board home.worker.seat home.hand }
+    requires allowed { IsAllowed N.Asked B.Board home.worker }
+    ensures others { AllAtWork N.Asked B.Board shared.now.board others.new.items }
+    ensures room { last_of result.0 ≡ None → vec_len others.new < vec_capacity others.new }
+    ensures next { NextIs N.run given.old result.0 }
+    ensures given { given.new ≡ given_after given.old result.0 }
+    ensures home { last_of result.0 ≡ None → IsHome N.Asked B.Board shared.now.board given.new result.1 }
+    ensures tallied { IsPlain N.root → IsTallied home.hand → IsHomeTallied result.1 }
+    ensures counted { IsPlain N.root → IsTallied home.hand → CountsNext N.run given.old (steps_told ticks.new result.1) result.0 }
+{
+    match run_root(rt, shared, gate, others, home) {
+        Some(mut back) => {
+            let next = tell::<N, B>(shared.alloc, given, ticks, &mut back);
+            (next, Some(back))
+        }
+        None => (Next::NoMemory, None),
+    }
+}
+
+// What a stop says that is told again.
+fn told_again(stop: Stop) -> Next
+    requires { IsLast stop }
+    ensures { Tells stop result }
+{
+    match stop {
+        Stop::Ended => Next::Done,
+        Stop::Raised(text) => Next::Raised(text),
+        Stop::LimitPassed => Next::LimitPassed,
+        _ => Next::NoMemory,
     }
 }
 
@@ -109,7 +258,21 @@ fn alone<'a, N: Asked + Send, B: Board<Carried<'a, N>>, G: Gate, R: Wait>(
     ensures hand { (board : B) (seat : B.Seat) → RootHand N.Asked B.Board board seat hand → AloneHand N.Asked B.Board board seat result }
     ensures tally { IsPlain N.root → IsTallied hand → IsTalliedAlone result }
 {
-    todo!()
+    let mut branch = match hand {
+        Hand::Runs(branch) => branch,
+        hand => return hand,
+    };
+    for _ in rt.forever() {
+        match run_root_slice(gate, ALONE, &mut branch.load) {
+            Stop::SliceOver => {}
+            Stop::AtFork(_) => return Hand::Runs(branch),
+            Stop::AtWait(_) => return Hand::Runs(branch),
+            Stop::AtSignal(_) => return Hand::Runs(branch),
+            Stop::NoMemory => return Hand::Came(branch, Stop::NoMemory),
+            stop => return came::<N, B>(branch, stop),
+        }
+    }
+    unreachable!()
 }
 
 // Runs the root up to its next stop: on the calling thread, and from its first fork on with all workers. The worker that has it.
@@ -124,7 +287,7 @@ fn run_root<
     shared: &Shared<B>,
     gate: &G,
     others: &mut Vec<Slot<Carried<'a, N>, B::Hold, B::Seat, (B::WaitRight, B::SignalRight, B::Children)>>,
-    home: Slot<Carried<'a, N>, B::Hold, B::Seat, (B::WaitRight, B::SignalRight, B::Children)>,
+    mut home: Slot<Carried<'a, N>, B::Hold, B::Seat, (B::WaitRight, B::SignalRight, B::Children)>,
 ) -> Option<Slot<Carried<'a, N>, B::Hold, B::Seat, (B::WaitRight, B::SignalRight, B::Children)>>
     requires sites { AreShares N.sites shared.now.sites.items }
     requires others { AllAtWork N.Asked B.Board shared.now.board others.old.items }
@@ -136,7 +299,25 @@ fn run_root<
     ensures back { IfSome result (λ slot. IsBack N.Asked B.Board shared.now.board slot) }
     ensures tally { IfSome result (λ slot. IsPlain N.root → IsTallied home.hand → IsTallied slot.hand) }
 {
-    todo!()
+    let hand = mem::replace(&mut home.hand, Hand::Empty);
+    match alone::<N, B, G, R>(rt, gate, hand) {
+        Hand::Came(branch, stop) => {
+            home.hand = Hand::Came(branch, stop);
+            Some(home)
+        }
+        Hand::Runs(mut branch) => {
+            if !B::is_root(&branch.hold) || !report(rt, &shared.board, &mut home.worker, &mut branch) {
+                home.hand = Hand::Came(branch, Stop::NoMemory);
+                return Some(home);
+            }
+            home.hand = Hand::Runs(branch);
+            shared.desk.open(rt);
+            others.push_reserved(home);
+            work_all(rt, shared, gate, others.as_mut_slice());
+            take_back::<N, B>(others)
+        }
+        _ => None,
+    }
 }
 
 // Takes the worker out that has the root.
@@ -148,17 +329,37 @@ fn take_back<'a, N: Asked + Send, B: Board<Carried<'a, N>>>(
     ensures room { IfSome result (λ _. (vec_len slots.new < vec_len slots.old) × (vec_capacity slots.new ≡ vec_capacity slots.old)) }
     ensures back { IfSome result (λ slot. (board : B) → AllDone N.Asked B.Board board slots.old.items → IsBack N.Asked B.Board board slot) }
 {
-    todo!()
+    for index in 0..slots.len() {
+        if is_back(&slots[index].hand) {
+            return Some(slots.remove(index));
+        }
+    }
+    None
+}
+
+// Whether this is the root, which has come to a stop.
+fn is_back<L: Drop, H: Drop>(hand: &Hand<L, H>) -> bool
+    ensures { result ≡ true → IsCame hand.now }
+{
+    match hand {
+        Hand::Came(_, _) => true,
+        _ => false,
+    }
 }
 
 // Slots for workers that have nothing in hand, with room for one more.
 fn idle_slots<'a, N: Asked + Send, B: Board<Carried<'a, N>>>(
     alloc: Global,
-    seats: Vec<B::Seat>,
+    mut seats: Vec<B::Seat>,
 ) -> Result<Vec<Slot<Carried<'a, N>, B::Hold, B::Seat, (B::WaitRight, B::SignalRight, B::Children)>>, NoMemory>
     requires { (board : B) × All (B.free board) seats.items }
     ensures room { IfOk result (λ slots. vec_len slots < vec_capacity slots) }
     ensures work { IfOk result (λ slots. (board : B) → All (B.free board) seats.items → AllAtWork N.Asked B.Board board slots.items) }
 {
-    todo!()
+    let mut slots = Vec::new(alloc);
+    while let Some(seat) = seats.pop() {
+        slots.push(slot_of(seat, Hand::Empty))?;
+    }
+    slots.reserve(1)?;
+    Ok(slots)
 }

@@ -33,7 +33,13 @@ pub(crate) fn tell<'a, N: Asked + Send, B: Board<Carried<'a, N>>>(
     ensures counted { IsPlain N.root → IsTallied slot.old.hand → CountsNext N.run given.old (steps_of ticks.new slot.new.hand) result }
 {
     match mem::replace(&mut slot.hand, Hand::Empty) {
-        Hand::Came(branch, Stop::Answer) => todo!(),
+        Hand::Came(branch, Stop::Answer) => {
+            let Some(block) = told_answer::<N, B>(alloc, given, &branch) else {
+                return Next::NoMemory;
+            };
+            slot.hand = Hand::Runs(branch);
+            Next::Answer(block)
+        }
         Hand::Came(mut branch, stop) => {
             *ticks = mem::replace(&mut branch.load.ticks, Ticks::new());
             end_told(*given, branch.load.given, stop)

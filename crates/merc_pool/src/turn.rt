@@ -116,7 +116,18 @@ pub(crate) fn report<'a, N: Asked + Send, B: Board<Carried<'a, N>>, R: Wait>(
     ensures allowed { IsAllowed N.Asked B.Board worker.new }
     ensures may_run { result ≡ true → B.of_root branch.old.hold ≡ false → worker.new.may_run ≡ true }
 {
-    todo!()
+    let is_root = B::is_root(&branch.hold);
+    let used = branch.load.machine.used();
+    let Ok(ticks) = u32::try_from(used - branch.load.reported) else {
+        unreachable!()
+    };
+    branch.load.reported = used;
+    let on = match board.go_on(rt, &mut worker.seat, &mut branch.hold, ticks, ticks) {
+        Pace::On => true,
+        Pace::Over | Pace::Cancelled => false,
+    };
+    worker.may_run = on && !is_root;
+    on
 }
 
 /// Takes a branch, if there is one.
