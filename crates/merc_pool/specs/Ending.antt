@@ -14,6 +14,7 @@ use Rattle.merc_board.specs.declared.board.Board as Board
 use Rattle.merc_board.specs.declared.branch.Branch.{Branch}
 use Rattle.merc_board.specs.Rights.{Rights}
 use Rattle.merc_board.specs.Boarding.{IsJoined}
+use Rattle.merc_pool.specs.declared.engine.Engine as Engine
 use Rattle.merc_pool.specs.declared.load.Asked as Asked
 use Rattle.merc_pool.specs.declared.load.Carried.{Carried}
 use Rattle.merc_pool.specs.Carrying.{made_by, ForkedAt}
@@ -31,17 +32,17 @@ IsOutcomeOf machine (AtSignal variable) outcome = outcome ≡ NoMemory
 IsOutcomeOf machine SliceOver outcome = outcome ≡ NoMemory
 IsOutcomeOf machine NoMemoryStop outcome = outcome ≡ NoMemory
 
-module _ {N : Type 0} (sites : List SiteInfo) (root : Script) (whole : Run) where
+module _ {M N : Type 0} (m : Engine.Ghosts M) (sites : List SiteInfo) (root : Script) (whole : Run) where
   -- A machine stands at a fork whose conjuncts join to this outcome, and behind which it can go on.
-  pub record IsJoinedFork (load : Carried N) (rights : Rights) (at : Place) (outcome : Outcome) : Type 0 where
-    pub fork : ForkedAt sites root whole load rights at
+  pub record IsJoinedFork (load : Carried M N) (rights : Rights) (at : Place) (outcome : Outcome) : Type 0 where
+    pub fork : ForkedAt m sites root whole load rights at
     pub joins : joined fork.limit (ends fork.children) ≡ outcome
     pub has_memory : outcome ≢ NoMemory
     pub is_fed : outcome ≢ Starved
 
-module _ {N B H S W G C : Type 0} (n : Asked.Ghosts N) (b : Board.Ghosts B (Carried N) H S W G C) where
+module _ {M N B H S W G C : Type 0} (m : Engine.Ghosts M) (n : Asked.Ghosts N) (b : Board.Ghosts B (Carried M N) H S W G C) where
   -- The seat's worker has a parent, whose conjuncts came to this.
-  pub record IsBehindFork (board : B) (seat : S) (branch : Branch (Carried N) H) (outcome : Outcome) : Type 0 where
+  pub record IsBehindFork (board : B) (seat : S) (branch : Branch (Carried M N) H) (outcome : Outcome) : Type 0 where
     pub at : Place
-    pub fork : ForkedAt n.sites n.root n.run branch.load (b.rights branch.hold) at
+    pub fork : ForkedAt m n.sites n.root n.run branch.load (b.rights branch.hold) at
     pub came : IsJoined (b.own board seat branch.hold) (b.runs board seat branch.hold) (b.starved board seat branch.hold) at fork.limit fork.children outcome

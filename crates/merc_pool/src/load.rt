@@ -1,7 +1,8 @@
 //! What a branch carries: a machine.
 
+use crate::engine::Engine;
 use merc_board::Load;
-use merc_machine::{Machine, Stop, Ticks};
+use merc_machine::{Stop, Ticks};
 use std::marker::PhantomData;
 
 /// What is asked: the script of the goal, what stands at the sites of the program, and the run that is told.
@@ -20,8 +21,8 @@ pub trait Asked {
 
 /// A machine on its way through what is asked.
 #[derive(Drop)]
-pub struct Carried<'a, N: Asked> {
-    pub machine: Machine<'a>,
+pub struct Carried<M: Engine, N: Asked> {
+    pub machine: M,
     /// The stop to which the machine came last; at a wait and at a fork it says which.
     pub stop: Stop,
     /// How many answers it has given. Only the root has answers.
@@ -35,16 +36,16 @@ pub struct Carried<'a, N: Asked> {
     pub asked: PhantomData<N>,
 }
 
-impl<'a, N: Asked> Load for Carried<'a, N> {
+impl<M: Engine, N: Asked> Load for Carried<M, N> {
     ghost use Rattle.merc_pool.specs.Carrying.{StandsAt, AwaitsAt, ForkedAt, IsShown};
 
     ghost root = { N.root };
 
-    ghost stands = { StandsAt N.sites N.root N.run };
+    ghost stands = { StandsAt M.Engine N.sites N.root N.run };
 
-    ghost awaits = { AwaitsAt N.sites N.root N.run };
+    ghost awaits = { AwaitsAt M.Engine N.sites N.root N.run };
 
-    ghost forked = { ForkedAt N.sites N.root N.run };
+    ghost forked = { ForkedAt M.Engine N.sites N.root N.run };
 
     ghost shows = { IsShown N.root };
 }
