@@ -41,6 +41,9 @@ behind_ticks : (made : ℕ) (rest : Script) → left_behind made (ticks_before m
 behind_ticks zero rest = refl
 behind_ticks (suc made) rest = behind_ticks made rest
 
+pub left_past : (at : Place) (made : ℕ) (rest : Script) → left_of at ≡ Some (ticks_before made rest) → left_of (further made at) ≡ Some rest
+left_past at made rest is = left_further made at (ticks_before made rest) is ∙ behind_ticks made rest
+
 pub ticked_on : (at : Place) (made : ℕ) (rest : Script) → left_of at ≡ Some (ticks_before made rest) → Ticked at made (further made at)
 ticked_on at made rest is = record {
   same_root = refl;
@@ -48,7 +51,7 @@ ticked_on at made rest is = record {
   passed = refl;
   rest = rest;
   before = is;
-  after = left_further made at (ticks_before made rest) is ∙ behind_ticks made rest;
+  after = left_past at made rest is;
 }
 
 pub not_ticked : (at : Place) (rest : Script) → left_of at ≡ Some rest → Ticked at zero at

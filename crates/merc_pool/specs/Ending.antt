@@ -17,6 +17,7 @@ use Rattle.merc_board.specs.Boarding.{IsJoined}
 use Rattle.merc_pool.specs.declared.engine.Engine as Engine
 use Rattle.merc_pool.specs.declared.load.Asked as Asked
 use Rattle.merc_pool.specs.declared.load.Carried.{Carried}
+use Rattle.merc_pool.specs.declared.load.Progress.{Progress}
 use Rattle.merc_pool.specs.Carrying.{made_by, ForkedAt}
 
 -- the outcome of a branch other than the root whose machine has stopped so
@@ -32,10 +33,10 @@ IsOutcomeOf machine (AtSignal variable) outcome = outcome ≡ NoMemory
 IsOutcomeOf machine SliceOver outcome = outcome ≡ NoMemory
 IsOutcomeOf machine NoMemoryStop outcome = outcome ≡ NoMemory
 
-module _ {M N : Type 0} (m : Engine.Ghosts M) (sites : List SiteInfo) (root : Script) (whole : Run) where
+module _ {M : Type 0} (m : Engine.Ghosts M) (sites : List SiteInfo) (root : Script) (whole : Run) where
   -- A machine stands at a fork whose conjuncts join to this outcome, and behind which it can go on.
-  pub record IsJoinedFork (load : Carried M N) (rights : Rights) (at : Place) (outcome : Outcome) : Type 0 where
-    pub fork : ForkedAt m sites root whole load rights at
+  pub record IsJoinedFork (progress : Progress M) (rights : Rights) (at : Place) (outcome : Outcome) : Type 0 where
+    pub fork : ForkedAt m sites root whole progress rights at
     pub joins : joined fork.limit (ends fork.children) ≡ outcome
     pub has_memory : outcome ≢ NoMemory
     pub is_fed : outcome ≢ Starved
@@ -44,5 +45,5 @@ module _ {M N B H S W G C : Type 0} (m : Engine.Ghosts M) (n : Asked.Ghosts N) (
   -- The seat's worker has a parent, whose conjuncts came to this.
   pub record IsBehindFork (board : B) (seat : S) (branch : Branch (Carried M N) H) (outcome : Outcome) : Type 0 where
     pub at : Place
-    pub fork : ForkedAt m n.sites n.root n.run branch.load (b.rights branch.hold) at
+    pub fork : ForkedAt m n.sites n.root n.run branch.load.progress (b.rights branch.hold) at
     pub came : IsJoined (b.own board seat branch.hold) (b.runs board seat branch.hold) (b.starved board seat branch.hold) at fork.limit fork.children outcome

@@ -29,10 +29,10 @@ module _ {M N B H S W G C : Type 0} (m : Engine.Ghosts M) (n : Asked.Ghosts N) (
     pub passed : ℕ
     pub owned : b.own board seat branch.hold from
     pub ticked : Ticked from passed at
-    pub reported : made_by (m.seen branch.load.machine) ≡ branch.load.reported + passed
+    pub reported : made_by (m.seen branch.load.progress.machine) ≡ branch.load.progress.reported + passed
 
   abbrev pub BranchStands : Branch (Carried M N) H → Place → Type 0
-  BranchStands branch = StandsAt m n.sites n.root n.run branch.load (b.rights branch.hold)
+  BranchStands branch = StandsAt m n.sites n.root n.run branch.load.progress (b.rights branch.hold)
 
   -- the seat's worker runs the branch, whose machine stands where the board was told
   abbrev pub IsLive : B → S → Branch (Carried M N) H → Type 0
@@ -41,36 +41,36 @@ module _ {M N B H S W G C : Type 0} (m : Engine.Ghosts M) (n : Asked.Ghosts N) (
   -- the branch waits, and this is its value
   abbrev pub HasValue : B → S → Branch (Carried M N) H → BlockData → Type 0
   HasValue board seat branch value =
-      IsGiven (b.own board seat branch.hold) (AwaitsAt m n.sites n.root n.run branch.load (b.rights branch.hold)) (IsShown n.root) value
+      IsGiven (b.own board seat branch.hold) (AwaitsAt m n.sites n.root n.run branch.load.progress (b.rights branch.hold)) (IsShown n.root) value
 
   abbrev pub CanEnd : B → S → Branch (Carried M N) H → Outcome → Type 0
   CanEnd board seat branch outcome = MayEnd (b.own board seat branch.hold) (BranchStands branch) (b.runs board seat branch.hold) (b.starved board seat branch.hold) outcome
 
   -- the worker has a parent whose children have ended
   abbrev pub IsParent : B → S → Branch (Carried M N) H → Type 0
-  IsParent board seat branch = (at : Place) × b.holds board seat branch.hold at × ForkedAt m n.sites n.root n.run branch.load (b.rights branch.hold) at
+  IsParent board seat branch = (at : Place) × b.holds board seat branch.hold at × ForkedAt m n.sites n.root n.run branch.load.progress (b.rights branch.hold) at
 
   -- the seat's worker runs the root
   pub record IsRooted (board : B) (seat : S) (branch : Branch (Carried M N) H) : Type 0 where
     pub at : Place
     pub named : at.name ≡ []
     pub passed : HasPassed board seat branch at
-    pub stands : Stands m n.sites n.root n.run branch.load (b.rights branch.hold) at
+    pub stands : Stands m n.sites n.root n.run branch.load.progress (b.rights branch.hold) at
 
   -- the root has come to an answer, the one that was to come
   pub record IsAtAnswer (board : B) (seat : S) (branch : Branch (Carried M N) H) : Type 0 where
     pub rooted : IsRooted board seat branch
     pub values : Env
     pub before : ℕ
-    pub answered : HasAnswered (m.seen branch.load.machine) values
-    pub counted : branch.load.given ≡ suc before
+    pub answered : HasAnswered (m.seen branch.load.progress.machine) values
+    pub counted : branch.load.progress.given ≡ suc before
     pub is_next : slice_get (answers_of n.run) before ≡ Some values
 
   abbrev pub CameTo : B → S → Branch (Carried M N) H → Stop → Type 0
   CameTo board seat branch Answer = IsAtAnswer board seat branch
-  CameTo board seat branch Ended = IsToldEnd m n.sites n.root n.run branch.load Ended
-  CameTo board seat branch (Raised text) = IsToldEnd m n.sites n.root n.run branch.load (Raised text)
-  CameTo board seat branch LimitPassed = IsToldEnd m n.sites n.root n.run branch.load LimitPassed
+  CameTo board seat branch Ended = IsToldEnd m n.sites n.root n.run branch.load.progress Ended
+  CameTo board seat branch (Raised text) = IsToldEnd m n.sites n.root n.run branch.load.progress (Raised text)
+  CameTo board seat branch LimitPassed = IsToldEnd m n.sites n.root n.run branch.load.progress LimitPassed
   CameTo board seat branch StarvedStop = Unit {0}
   CameTo board seat branch (AtFork site) = Unit {0}
   CameTo board seat branch (AtWait variable) = Unit {0}
@@ -96,9 +96,9 @@ module _ {M N B H S W G C : Type 0} (m : Engine.Ghosts M) (n : Asked.Ghosts N) (
   -- the branch in hand has come to a place, of which the board was told, and its machine has stopped so there
   abbrev pub HasComeTo : B → S → Branch (Carried M N) H → Stop → Type 0
   HasComeTo board seat branch stop =
-      (at : Place) × b.own board seat branch.hold at × (made_by (m.seen branch.load.machine) ≡ branch.load.reported) × StoppedAt m n.sites n.root n.run branch.load (b.rights branch.hold) at stop
+      (at : Place) × b.own board seat branch.hold at × (made_by (m.seen branch.load.progress.machine) ≡ branch.load.progress.reported) × StoppedAt m n.sites n.root n.run branch.load.progress (b.rights branch.hold) at stop
 
   -- .. the root, of which it was perhaps told less
   abbrev pub RootCameTo : B → S → Branch (Carried M N) H → Stop → Type 0
   RootCameTo board seat branch stop =
-      (at : Place) × (at.name ≡ []) × HasPassed board seat branch at × StoppedAt m n.sites n.root n.run branch.load (b.rights branch.hold) at stop
+      (at : Place) × (at.name ≡ []) × HasPassed board seat branch at × StoppedAt m n.sites n.root n.run branch.load.progress (b.rights branch.hold) at stop

@@ -55,7 +55,7 @@ module _ {M N H : Type 0} where
   -- the root has so many answers given
   abbrev pub HasGiven : ℕ → Hand (Carried M N) H → Type 0
   HasGiven given Empty = ⊥
-  HasGiven given (Runs branch) = branch.value.load.given ≡ given
+  HasGiven given (Runs branch) = branch.value.load.progress.given ≡ given
   HasGiven given (Given branch value) = ⊥
   HasGiven given (Ends branch outcome) = ⊥
   HasGiven given (Came branch stop) = ⊥
@@ -72,10 +72,10 @@ module _ {M N H : Type 0} (m : Engine.Ghosts M) where
   -- the root's counter has all steps that its machine made
   abbrev pub IsTallied : Hand (Carried M N) H → Type 0
   IsTallied Empty = Unit {0}
-  IsTallied (Runs branch) = branch.value.load.ticks ≡ made_by (m.seen branch.value.load.machine)
+  IsTallied (Runs branch) = branch.value.load.ticks ≡ made_by (m.seen branch.value.load.progress.machine)
   IsTallied (Given branch value) = Unit {0}
   IsTallied (Ends branch outcome) = Unit {0}
-  IsTallied (Came branch stop) = stop ≢ NoMemoryStop → branch.value.load.ticks ≡ made_by (m.seen branch.value.load.machine)
+  IsTallied (Came branch stop) = stop ≢ NoMemoryStop → branch.value.load.ticks ≡ made_by (m.seen branch.value.load.progress.machine)
 
   -- .. and no fork was met
   abbrev pub IsTalliedAlone : Hand (Carried M N) H → Type 0

@@ -8,7 +8,7 @@ ghost use Rattle.merc_pool.specs.Hands.{CanEnd, HandIs, HasComeTo, IsAllowed, Is
 
 use crate::engine::Engine;
 use crate::hand::Hand;
-use crate::load::{Asked, Carried};
+use crate::load::{Asked, Carried, Progress};
 use crate::shared::{Shared, Worker};
 use merc_board::{Board, Branch, Resumed};
 use merc_machine::Stop;
@@ -26,7 +26,7 @@ pub(crate) fn stopped<M: Engine, N: Asked + Send, B: Board<Carried<M, N>>>(
     if B::is_root(&branch.hold) {
         return came::<M, N, B>(branch, stop);
     }
-    let outcome = outcome_of(&branch.load.machine, stop);
+    let outcome = outcome_of(&branch.load.progress.machine, stop);
     Hand::Ends(branch, outcome)
 }
 
@@ -39,9 +39,9 @@ pub(crate) fn came<M: Engine, N: Asked + Send, B: Board<Carried<M, N>>>(
     ensures { (board : B) (seat : B.Seat) → RootCameTo M.Engine N.Asked B.Board board seat branch.value stop → HandIs M.Engine N.Asked B.Board board seat result }
 {
     match stop {
-        Stop::Answer => match branch.load.given.checked_add(1) {
+        Stop::Answer => match branch.load.progress.given.checked_add(1) {
             Some(given) => {
-                branch.load.given = given;
+                branch.load.progress.given = given;
                 Hand::Came(branch, Stop::Answer)
             }
             // no run comes to so many
@@ -119,20 +119,20 @@ fn go_behind<M: Engine, N: Asked + Send, B: Board<Carried<M, N>>>(
         Outcome::NoMemory => Hand::Ends(parent, Outcome::NoMemory),
         Outcome::Starved => Hand::Ends(parent, Outcome::Starved),
         outcome => {
-            rejoin(&mut parent.load, outcome);
+            rejoin::<M, N>(&mut parent.load.progress, outcome);
             Hand::Runs(parent)
         }
     }
 }
 
 // Takes a machine past its fork. Its board knows of the steps that the conjuncts made.
-fn rejoin<M: Engine, N: Asked>(load: &mut Carried<M, N>, outcome: Outcome)
-    requires { (rights : Rights) × (at : Place) × IsJoinedFork M.Engine N.sites N.root N.run load.old rights at outcome }
-    ensures { (rights : Rights) (at : Place) → IsJoinedFork M.Engine N.sites N.root N.run load.old rights at outcome → StandsAt M.Engine N.sites N.root N.run load.new rights (next at) }
+fn rejoin<M: Engine, N: Asked>(progress: &mut Progress<M>, outcome: Outcome)
+    requires { (rights : Rights) × (at : Place) × IsJoinedFork M.Engine N.sites N.root N.run progress.old rights at outcome }
+    ensures { (rights : Rights) (at : Place) → IsJoinedFork M.Engine N.sites N.root N.run progress.old rights at outcome → StandsAt M.Engine N.sites N.root N.run progress.new rights (next at) }
 {
-    let Stop::AtFork(site) = load.stop else {
+    let Stop::AtFork(site) = progress.stop else {
         unreachable!()
     };
-    load.machine.rejoin(site, outcome);
-    load.reported = load.machine.used();
+    progress.machine.rejoin(site, outcome);
+    progress.reported = progress.machine.used();
 }

@@ -24,6 +24,8 @@ use std::alloc::Global;
 /// What makes the steps of a branch: a machine, with its calls as they are. It is a trait so that the types of a session name
 /// no lifetime.
 pub trait Engine: Drop + Send {
+    ghost use Rattle.merc_machine.specs.declared.machine.Machine.{Machine};
+
     // the machine that it is
     ghost seen: { Self → Machine };
 

@@ -1,5 +1,5 @@
 //! Forks, and branches that are found.
-ghost use Rattle.std.specs.Prelude.{IfOk};
+ghost use Rattle.std.specs.Prelude.{◌≡◌, IfOk};
 ghost use Rattle.merc_code.specs.declared.instruction.Instruction.TheVariants.{Fork};
 ghost use Rattle.merc_course.specs.Course.{RunCourse};
 ghost use Rattle.merc_machine.specs.Coming.{MeetsAt};
@@ -11,7 +11,7 @@ ghost use Rattle.merc_pool.specs.Shares.{AreShares};
 
 use crate::engine::Engine;
 use crate::hand::Hand;
-use crate::load::{Asked, Carried};
+use crate::load::{Asked, Carried, Progress};
 use crate::shared::{Shared, Worker};
 use merc_base::NoMemory;
 use merc_board::{Board, Branch, Woken};
@@ -38,8 +38,8 @@ pub(crate) fn at_fork<M: Engine, N: Asked + Send, B: Board<Carried<M, N>>, R: Wa
     let Some(share) = shared.sites.get(site.number) else {
         return Hand::Ends(branch, Outcome::NoMemory);
     };
-    let limit = branch.load.machine.left();
-    let Ok(loads) = start::<M, N>(shared.alloc, &branch.load.machine, site, share.children) else {
+    let limit = branch.load.progress.machine.left();
+    let Ok(loads) = start::<M, N>(shared.alloc, &branch.load.progress.machine, site, share.children) else {
         return Hand::Ends(branch, Outcome::NoMemory);
     };
     match shared.board.prepare(
@@ -80,17 +80,28 @@ fn start<M: Engine, N: Asked>(
         }
         let child = machine.child(alloc, site, number)?;
         let enters = number_of(number)?;
-        loads.push(Carried {
-            machine: child,
+        loads.push(begun::<M, N>(child, enters))?;
+    }
+    Ok(loads)
+}
+
+/// What a machine carries that has made no step, of a conjunct that enters the gate with this number, or of the root, which enters
+/// none with 0.
+pub(crate) fn begun<M: Engine, N: Asked>(machine: M, enters: u32) -> Carried<M, N>
+    ensures machine { result.progress.machine ≡ machine }
+    ensures none { (result.progress.given ≡ 0) × (result.progress.reported ≡ 0) × (result.ticks ≡ 0) }
+{
+    Carried {
+        progress: Progress {
+            machine,
             stop: Stop::SliceOver,
             given: 0,
             reported: 0,
-            enters,
-            ticks: Ticks::new(),
-            asked: PhantomData,
-        })?;
+        },
+        enters,
+        ticks: Ticks::new(),
+        asked: PhantomData,
     }
-    Ok(loads)
 }
 
 // The number of a conjunct, counted from 1, of which so many come before.

@@ -19,9 +19,9 @@ pub trait Asked {
     ghost run: { Run };
 }
 
-/// A machine on its way through what is asked.
+/// How far a machine has come.
 #[derive(Drop)]
-pub struct Carried<M: Engine, N: Asked> {
+pub struct Progress<M: Engine> {
     pub machine: M,
     /// The stop to which the machine came last; at a wait and at a fork it says which.
     pub stop: Stop,
@@ -29,6 +29,12 @@ pub struct Carried<M: Engine, N: Asked> {
     pub given: u64,
     /// How many of the steps that it has made its board was told.
     pub reported: u64,
+}
+
+/// A machine on its way through what is asked.
+#[derive(Drop)]
+pub struct Carried<M: Engine, N: Asked> {
+    pub progress: Progress<M>,
     /// The number of the conjunct that it is until it has entered the gate, then 0.
     pub enters: u32,
     /// The steps that the root's machine has made. Those of others are counted by the workers that make them.
@@ -41,11 +47,11 @@ impl<M: Engine, N: Asked> Load for Carried<M, N> {
 
     ghost root = { N.root };
 
-    ghost stands = { StandsAt M.Engine N.sites N.root N.run };
+    ghost stands = { λ load. StandsAt M.Engine N.sites N.root N.run load.progress };
 
-    ghost awaits = { AwaitsAt M.Engine N.sites N.root N.run };
+    ghost awaits = { λ load. AwaitsAt M.Engine N.sites N.root N.run load.progress };
 
-    ghost forked = { ForkedAt M.Engine N.sites N.root N.run };
+    ghost forked = { λ load. ForkedAt M.Engine N.sites N.root N.run load.progress };
 
     ghost shows = { IsShown N.root };
 }

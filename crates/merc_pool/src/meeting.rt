@@ -44,10 +44,10 @@ pub(crate) fn give<M: Engine, N: Asked + Send, B: Board<Carried<M, N>>>(
     requires { (board : B) × (seat : B.Seat) × HasValue M.Engine N.Asked B.Board board seat branch.value value }
     ensures { (board : B) (seat : B.Seat) → HasValue M.Engine N.Asked B.Board board seat branch.value value → HandIs M.Engine N.Asked B.Board board seat result }
 {
-    let Stop::AtWait(variable) = branch.load.stop else {
+    let Stop::AtWait(variable) = branch.load.progress.stop else {
         unreachable!()
     };
-    match branch.load.machine.give(variable, &value) {
+    match branch.load.progress.machine.give(variable, &value) {
         Ok(()) => Hand::Runs(branch),
         Err(NoMemory) => Hand::Ends(branch, Outcome::NoMemory),
     }
@@ -66,7 +66,7 @@ pub(crate) fn at_signal<M: Engine, N: Asked + Send, B: Board<Carried<M, N>>, R: 
     requires allowed { IsAllowed M.Engine N.Asked B.Board worker.old }
     ensures { IsAtWork M.Engine N.Asked B.Board shared.now.board worker.new result }
 {
-    let Ok(value) = branch.load.machine.value_of(shared.alloc, variable) else {
+    let Ok(value) = branch.load.progress.machine.value_of(shared.alloc, variable) else {
         return Hand::Ends(branch, Outcome::NoMemory);
     };
     let Some(right) = B::signal_right(&mut branch.hold, variable) else {

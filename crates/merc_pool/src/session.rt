@@ -3,7 +3,10 @@ ghost use Rattle.std.specs.Prelude.{◌≡◌, ◌<◌, ◌≤◌, true, false, 
 ghost use Rattle.merc_machine.specs.declared.running.Stop.{Stop};
 ghost use Rattle.merc_meaning.specs.Counting.{counted};
 ghost use Rattle.merc_pool.specs.Asking.{Asks};
-ghost use Rattle.merc_pool.specs.Carrying.{IsPlain};
+ghost use Rattle.merc_board.specs.Rights.{Rights};
+ghost use Rattle.merc_script.specs.Places.{Place};
+ghost use Rattle.merc_pool.specs.Carrying.{IsPlain, Stands};
+ghost use Rattle.merc_pool.specs.Running.{CountsSlice, RunsTo};
 ghost use Rattle.merc_pool.specs.Hands.{IsAllowed};
 ghost use Rattle.merc_pool.specs.Sessions.{AloneHand, IsBack, IsCame, IsHome, IsHomeTallied, IsTallied, IsTalliedAlone, RootHand, steps_of, steps_told};
 ghost use Rattle.merc_pool.specs.Shares.{AreShares};
@@ -13,10 +16,11 @@ ghost use Rattle.merc_pool.specs.Working.{AllAtWork, AllDone};
 use crate::engine::Engine;
 use crate::desk::Desk;
 use crate::ending::came;
+use crate::forking::begun;
 use crate::hand::Hand;
 use crate::load::{Asked, Carried};
 use crate::next::Next;
-use crate::running::run_root_slice;
+use crate::running::run_slice;
 use crate::shared::{Shared, Slot, Worker};
 use crate::shares::shares_of;
 use crate::telling::tell;
@@ -81,7 +85,7 @@ impl<M: Engine, N: Asked + Send, B: Board<Carried<M, N>>> Session<M, N, B> {
     {
         let mut board = board;
         let sites = shares_of(alloc, plan)?;
-        let Opened { home, others, root } = board.open(alloc, load_of(machine))?;
+        let Opened { home, others, root } = board.open(alloc, begun::<M, N>(machine, 0))?;
         let others = idle_slots::<M, N, B>(alloc, others)?;
         Ok(Session {
             shared: Shared {
@@ -161,21 +165,6 @@ fn count_slot<M: Engine, N: Asked + Send, B: Board<Carried<M, N>>>(
         into.take_in(&mut branch.load.ticks);
     }
     into.take_in(&mut worker.ticks);
-}
-
-// What a machine carries that is to run the root.
-fn load_of<M: Engine, N: Asked>(machine: M) -> Carried<M, N>
-    ensures { (result.machine ≡ machine) × (result.given ≡ 0) × (result.reported ≡ 0) × (result.ticks ≡ 0) }
-{
-    Carried {
-        machine,
-        stop: Stop::SliceOver,
-        given: 0,
-        reported: 0,
-        enters: 0,
-        ticks: Ticks::new(),
-        asked: PhantomData,
-    }
 }
 
 // A worker that has counted nothing, with what it has in hand.
@@ -264,7 +253,7 @@ fn alone<M: Engine, N: Asked + Send, B: Board<Carried<M, N>>, G: Gate, R: Wait>(
         hand => return hand,
     };
     for _ in rt.forever() {
-        match run_root_slice(gate, ALONE, &mut branch.load) {
+        match run_alone::<M, N, G>(gate, &mut branch.load) {
             Stop::SliceOver => {}
             Stop::AtFork(_) => return Hand::Runs(branch),
             Stop::AtWait(_) => return Hand::Runs(branch),
@@ -274,6 +263,15 @@ fn alone<M: Engine, N: Asked + Send, B: Board<Carried<M, N>>, G: Gate, R: Wait>(
         }
     }
     unreachable!()
+}
+
+// Runs the root for as many steps as it makes.
+fn run_alone<M: Engine, N: Asked, G: Gate>(gate: &G, load: &mut Carried<M, N>) -> Stop
+    requires stands { (rights : Rights) × (from : Place) × Stands M.Engine N.sites N.root N.run load.old.progress rights from }
+    ensures runs { (rights : Rights) (from : Place) → Stands M.Engine N.sites N.root N.run load.old.progress rights from → RunsTo M.Engine N.sites N.root N.run ALONE load.old.progress load.new.progress rights from result }
+    ensures counts { CountsSlice (M.seen load.old.progress.machine) (M.seen load.new.progress.machine) load.old.ticks load.new.ticks result }
+{
+    run_slice::<M, N, G>(gate, ALONE, &mut load.enters, &mut load.ticks, &mut load.progress)
 }
 
 // Runs the root up to its next stop: on the calling thread, and from its first fork on with all workers. The worker that has it.

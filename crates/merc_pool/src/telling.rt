@@ -43,7 +43,7 @@ pub(crate) fn tell<M: Engine, N: Asked + Send, B: Board<Carried<M, N>>>(
         }
         Hand::Came(mut branch, stop) => {
             *ticks = mem::replace(&mut branch.load.ticks, Ticks::new());
-            end_told(*given, branch.load.given, stop)
+            end_told(*given, branch.load.progress.given, stop)
         }
         _ => Next::NoMemory,
     }
@@ -57,15 +57,15 @@ fn told_answer<M: Engine, N: Asked + Send, B: Board<Carried<M, N>>>(
 ) -> Option<Block>
     requires { (board : B) × (seat : B.Seat) × IsAtAnswer M.Engine N.Asked B.Board board seat branch.now }
     ensures { MatchOption result (given.new ≡ given.old)
-        (λ block. ((values : Env) × (slice_get (answers_of N.run) given.old ≡ Some values) × ShowsAnswer values block) × (given.new ≡ suc given.old) × (branch.now.load.given ≡ given.new)) }
+        (λ block. ((values : Env) × (slice_get (answers_of N.run) given.old ≡ Some values) × ShowsAnswer values block) × (given.new ≡ suc given.old) × (branch.now.load.progress.given ≡ given.new)) }
 {
-    if given.checked_add(1) != Some(branch.load.given) {
+    if given.checked_add(1) != Some(branch.load.progress.given) {
         return None;
     }
-    let Ok(block) = branch.load.machine.answer(alloc) else {
+    let Ok(block) = branch.load.progress.machine.answer(alloc) else {
         return None;
     };
-    *given = branch.load.given;
+    *given = branch.load.progress.given;
     Some(block)
 }
 

@@ -12,7 +12,7 @@ use crate::forking::{at_fork, found};
 use crate::hand::Hand;
 use crate::load::{Asked, Carried};
 use crate::meeting::{at_signal, at_wait, give};
-use crate::running::{run_root_slice, run_slice};
+use crate::running::run_slice;
 use crate::shared::{Shared, Worker};
 use merc_base::Gate;
 use merc_board::{Board, Branch, Pace};
@@ -103,11 +103,9 @@ fn make_slice<M: Engine, N: Asked + Send, B: Board<Carried<M, N>>, G: Gate, R: W
     if !is_root && !worker.may_run && !report(rt, &shared.board, worker, branch) {
         return Err(Outcome::Starved);
     }
-    let stop = if is_root {
-        run_root_slice(gate, SLICE, &mut branch.load)
-    } else {
-        run_slice(gate, SLICE, &mut worker.ticks, &mut branch.load)
-    };
+    let load = &mut branch.load;
+    let ticks = if is_root { &mut load.ticks } else { &mut worker.ticks };
+    let stop = run_slice::<M, N, G>(gate, SLICE, &mut load.enters, ticks, &mut load.progress);
     if let Stop::NoMemory = stop {
         return Err(Outcome::NoMemory);
     }
@@ -126,21 +124,22 @@ pub(crate) fn report<M: Engine, N: Asked + Send, B: Board<Carried<M, N>>, R: Wai
     branch: &mut Branch<Carried<M, N>, B::Hold>,
 ) -> bool
     requires passed { (at : Place) × HasPassed M.Engine N.Asked B.Board board.now worker.old.seat branch.old at }
-    requires counted { IsCounted (M.seen branch.old.load.machine) }
-    requires may { MayReport (B.may_run worker.old.seat) (B.of_root branch.old.hold) (unreported (M.seen branch.old.load.machine) branch.old.load.reported) (unreported (M.seen branch.old.load.machine) branch.old.load.reported) }
+    requires counted { IsCounted (M.seen branch.old.load.progress.machine) }
+    requires may { MayReport (B.may_run worker.old.seat) (B.of_root branch.old.hold) (unreported (M.seen branch.old.load.progress.machine) branch.old.load.progress.reported) (unreported (M.seen branch.old.load.progress.machine) branch.old.load.progress.reported) }
     ensures on { result ≡ true → (at : Place) → HasPassed M.Engine N.Asked B.Board board.now worker.old.seat branch.old at → B.own board.now worker.new.seat branch.new.hold at }
     ensures cut { result ≡ false → B.starved board.now worker.new.seat branch.new.hold }
     ensures rights { B.rights branch.new.hold ≡ B.rights branch.old.hold }
-    ensures load { branch.new.load ≡ record branch.old.load { reported = made_by (M.seen branch.old.load.machine) } }
+    ensures progress { branch.new.load.progress ≡ record branch.old.load.progress { reported = made_by (M.seen branch.old.load.progress.machine) } }
+    ensures ticks { branch.new.load.ticks ≡ branch.old.load.ticks }
     ensures allowed { IsAllowed M.Engine N.Asked B.Board worker.new }
     ensures may_run { result ≡ true → B.of_root branch.old.hold ≡ false → worker.new.may_run ≡ true }
 {
     let is_root = B::is_root(&branch.hold);
-    let used = branch.load.machine.used();
-    let Ok(ticks) = u32::try_from(used - branch.load.reported) else {
+    let used = branch.load.progress.machine.used();
+    let Ok(ticks) = u32::try_from(used - branch.load.progress.reported) else {
         unreachable!()
     };
-    branch.load.reported = used;
+    branch.load.progress.reported = used;
     let on = match board.go_on(rt, &mut worker.seat, &mut branch.hold, ticks, ticks) {
         Pace::On => true,
         Pace::Over | Pace::Cancelled => false,
