@@ -177,4 +177,3 @@ pub met-signal : (machine : Machine) (variable : ℕ) (value : Value) (forked : 
     → (reply : Reply) → YieldsLean m.codes (At m.rest m.env m.marks m.callers m.choices (left_after (all_left machine) reply)) (next reply)
 met-signal machine variable value forked next m =
     (signalled machine variable (Meets (AtSignal variable value) forked next) m value forked next refl).1
-

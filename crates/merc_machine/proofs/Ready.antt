@@ -65,5 +65,5 @@ module _ (before : Machine) (place : ℕ) (running : before.phase ≡ Running pl
       let there = All-head (λ (x : ℕ). x < variables) variable [] fits.read_variables_are_there in
       let has : value_at at.env variable ≡ None = at.runs.stands.frame.values variable there ∙ none in
       let step = step_is codes state at.instruction (Signal variable) at.rest at.env at.marks at.callers at.choices (all_left before) at.is is.0
-          ∙ ap (signals at.rest at.env at.marks at.callers at.choices (all_left before) variable) has in
+      ∙ ap (signals at.rest at.env at.marks at.callers at.choices (all_left before) variable) has in
       (refl, moves_back codes entry_of before place running state at.choices step at.runs.choices_stand)

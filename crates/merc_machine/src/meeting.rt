@@ -12,6 +12,7 @@ ghost use Rattle.merc_meaning.specs.Trace.{RunEnd};
 ghost use Rattle.merc_machine.specs.Coming.{IsReady, MeetsAt, ProceedsFrom, all_left};
 ghost use Rattle.merc_load.specs.declared.loaded.Op.TheVariants.{Meet as MeetOp};
 ghost use Rattle.merc_machine.specs.declared.machine.Phase.TheVariants.{Running};
+ghost use Rattle.merc_machine.specs.Meetings.{IsConjunctOf, IsGiven, IsRejoined};
 ghost use Rattle.merc_machine.specs.Running.{Means, course_at, steps_in, stop_at, stop_by};
 ghost use Rattle.merc_machine.specs.declared.running.Stop.{Stop};
 ghost use Rattle.merc_machine.specs.declared.running.Stop.TheVariants.{Starved};
@@ -39,8 +40,7 @@ impl<'a> Machine<'a> {
         requires at { MeetsAt self.now (Fork site) }
         requires means { (course : RunCourse) × Means self.now course }
         requires there { is_some (conjunct_at self.now.program.now.conjuncts site.number number) ≡ true }
-        ensures means { IfOk result (λ child. (forked : Courses RunEnd) (next : Reply → RunCourse) → Means self.now (Meets (AtFork site.number) forked next)
-            → (course : RunCourse) → course_at forked number ≡ Some course → Means child course) }
+        ensures means { IfOk result (λ child. IsConjunctOf self.now site number child) }
         ensures forked { (forked : Courses RunEnd) (next : Reply → RunCourse) → Means self.now (Meets (AtFork site.number) forked next)
             → (course : RunCourse) × (course_at forked number ≡ Some course) }
         ensures limit { IfOk result (λ child. (child.limit ≡ all_left self.now) × (all_left child ≡ all_left self.now)) }
@@ -77,8 +77,7 @@ impl<'a> Machine<'a> {
         requires at { MeetsAt self.old (Fork site) }
         requires means { (course : RunCourse) × Means self.old course }
         requires within { steps_in outcome ≤ all_left self.old }
-        ensures goes_on { (steps : ℕ) → outcome ≡ Outcome.Ok steps → (forked : Courses RunEnd) (next : Reply → RunCourse) → Means self.old (Meets (AtFork site.number) forked next)
-            → Means self.new (next (Joined steps)) }
+        ensures goes_on { (steps : ℕ) → outcome ≡ Outcome.Ok steps → IsRejoined self.old site steps self.new }
         ensures ends { (stop : Stop) → stop_by outcome ≡ Some stop → self.new ≡ record self.old { later = all_left self.old - steps_in outcome; over = Some stop } }
         ensures spends { (all_left self.new + steps_in outcome ≡ all_left self.old) × (self.new.limit ≡ self.old.limit) }
     {
@@ -107,8 +106,7 @@ impl<'a> Machine<'a> {
         requires at { MeetsAt self.old (Wait variable) }
         requires means { (course : RunCourse) × Means self.old course }
         requires root { length value.now.roots ≡ 1 }
-        ensures goes_on { OnOk result ((given : Value) → root_values value.now ≡ given ∷ [] → (forked : Courses RunEnd) (next : Reply → RunCourse) → Means self.old (Meets (AtWait variable) forked next)
-            → Means self.new (next (Given given))) }
+        ensures goes_on { OnOk result ((given : Value) → root_values value.now ≡ given ∷ [] → IsGiven self.old variable given self.new) }
         ensures same_steps { OnOk result ((all_left self.new ≡ all_left self.old) × (self.new.limit ≡ self.old.limit)) }
         ensures err { OnErr result (self.new ≡ self.old) }
     {

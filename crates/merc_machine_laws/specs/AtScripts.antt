@@ -1,5 +1,5 @@
 -- Machines that stand at scripts.
-use Rattle.std.specs.Prelude.{◌≡◌, ◌⊎◌, ℕ, zero, suc, true, List, Option, Some, None}
+use Rattle.std.specs.Prelude.{◌≡◌, ℕ, zero, suc, List, Option, Some, None}
 use Rattle.std.specs.Option.{is_some}
 use Rattle.merc_tree.specs.declared.declarations.PredDecl.{PredDecl}
 use Rattle.merc_graded_tree.specs.declared.basic.Procedure.{Procedure}
@@ -41,11 +41,14 @@ child_at NoChild number = None
 child_at (Child first others) zero = Some first
 child_at (Child first others) (suc number) = child_at others number
 
--- This is the code that the split trees of procedures and of a goal give each procedure and each site.
+-- the code of procedures, and of the conjuncts of all sites, by the split trees of procedures and of a goal
+abbrev pub split_codes : List PredDecl → List Node → Node → Codes
+split_codes predicates trees goal = codes_of (split_program predicates trees) (conjuncts_at (forked_with (all_split 0 trees) (split_goal trees goal)))
+
+-- This is the code that they give each procedure and each site.
 pub record IsCodeOf (predicates : List PredDecl) (trees : List Node) (goal : Node) (codes : Codes) : Type 0 where
-  pub procedures : (procedure : Procedure)
-      → codes.procedures procedure ≡ (codes_of (split_program predicates trees) (conjuncts_at (forked_with (all_split 0 trees) (split_goal trees goal)))).procedures procedure
-  pub conjuncts : (site : ℕ) → codes.conjuncts site ≡ (codes_of (split_program predicates trees) (conjuncts_at (forked_with (all_split 0 trees) (split_goal trees goal)))).conjuncts site
+  pub procedures : (procedure : Procedure) → codes.procedures procedure ≡ (split_codes predicates trees goal).procedures procedure
+  pub conjuncts : (site : ℕ) → codes.conjuncts site ≡ (split_codes predicates trees goal).conjuncts site
 
 -- A machine that is started for an accepted goal, over its loaded code, stands at the goal's script.
 abbrev pub GoalsStartAtScripts : Type 0
@@ -80,12 +83,12 @@ OfEachFork Holds =
     (values : ℕ → Option Value) (machine : Machine) (site : Site) (limit : ℕ) (cells : List Cell) (moves : List Move) (children : Children) (rest : Script)
     → StandsAt values machine (ForkThen limit cells moves children rest) → MeetsAt machine (Fork site) → Holds values machine site limit children rest
 
--- Each child of the script is a conjunct that the machine can make ..
+-- The conjuncts that the machine can make are as many as the script's children ..
 abbrev pub ConjunctsAreThere : Type 0
 ConjunctsAreThere = OfEachFork (λ values machine site limit children rest.
-    (number : ℕ) (script : Script) → child_at children number ≡ Some script → is_some (conjunct_at machine.program.now.conjuncts site.number number) ≡ true)
+    (number : ℕ) → is_some (conjunct_at machine.program.now.conjuncts site.number number) ≡ is_some (child_at children number))
 
--- .. and that one's machine stands at the beginning of the child's script.
+-- .. and each one's machine stands at the beginning of its child's script.
 abbrev pub ConjunctsStartAtScripts : Type 0
 ConjunctsStartAtScripts = OfEachFork (λ values machine site limit children rest.
     (number : ℕ) (script : Script) → child_at children number ≡ Some script → (child : Machine) → IsConjunctOf machine site number child → StandsAt values child script)

@@ -1,2 +1,4 @@
 pub mod AtScripts
 pub mod AtScriptsExamples
+pub mod RunsAtScripts
+pub mod RunsAtScriptsExamples

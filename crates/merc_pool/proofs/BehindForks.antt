@@ -9,7 +9,6 @@ use Rattle.merc_script.specs.Script.{Script, Ends, TickThen, WaitThen, SignalThe
 use Rattle.merc_script.specs.Joining.{joined, later}
 use Rattle.merc_script.specs.Places.{Place, left_behind, left_in, left_of, script_named}
 use Rattle.merc_core.specs.WellFormed.{cells_of, value_in}
-use Rattle.merc_core.proofs.Names.{next-in}
 use Rattle.merc_course.specs.Course.{RunCourse, Meets, AtFork, Reply, Joined, Courses}
 use Rattle.merc_rights.specs.declared.sites.SiteInfo.{SiteInfo}
 use Rattle.merc_graded_tree.specs.declared.basic.Site.{Site}
@@ -23,11 +22,13 @@ use Rattle.merc_board.specs.Going.{next as place_behind}
 use Rattle.merc_carried.specs.Sharing.{rights_behind}
 use Rattle.merc_carried.specs.Runs.{behind_steps, IsLeftOf}
 use Rattle.merc_carried.specs.KeepsTo.{KeepsTo, ShowsEnd, goes_on as fork_goes_on, ends_there}
-use Rattle.merc_pool.specs.declared.load.Carried.{Carried}
+use Rattle.merc_pool.specs.declared.engine.Engine as Engine
+use Rattle.merc_pool.specs.declared.load.Progress.{Progress}
 use Rattle.merc_pool.specs.Carrying.{made_by, IsPlain, IsCounted, IsOn, IsToldEnd, HasStopped, goes_on, has_stopped, StandsAt}
 use Rattle.merc_pool.specs.Ending.{IsJoinedFork}
-use Rattle.merc_pool.proofs.JoinedSteps.{joined-within}
-use Rattle.merc_pool.proofs.LeftRuns.{left-behind}
+use Rattle.merc_carried.proofs.Conjuncts.{joined_within, steps_of}
+use Rattle.merc_carried.proofs.Left.{left_steps}
+use Rattle.merc_carried.proofs.Places.{left_next}
 
 -- What a course that keeps to its script at a fork comes to.
 module _ (sites : List SiteInfo) (values : ℕ → Option Value) where
@@ -78,6 +79,13 @@ pub record HasRejoined (old machine : Machine) (site : ℕ) (outcome : Outcome) 
   pub spent : all_left machine + steps_in outcome ≡ all_left old
   pub limit : machine.limit ≡ old.limit
 
+same-steps : (outcome : Outcome) → steps_in outcome ≡ steps_of outcome
+same-steps (Fine steps) = refl
+same-steps (Raise text steps) = refl
+same-steps Limit = refl
+same-steps Starved = refl
+same-steps NoMemory = refl
+
 site-same : (stop : Stop) (one other : Site) → stop ≡ AtForkStop one → stop ≡ AtForkStop other → one.number ≡ other.number
 site-same stop one other is also = let same : AtForkStop one ≡ AtForkStop other = sym is ∙ also in let site : one ≡ other = cc in ap (λ (s : Site). s.number) site
 
@@ -92,123 +100,124 @@ has-rejoined old machine stop site there outcome is also well badly spends = rec
   limit = spends.1;
 }
 
-module _ {N : Type 0} (sites : List SiteInfo) (root : Script) (whole : Run) where
-  pub steps-left-there : (load : Carried N) (rights : Rights) (at : Place) (outcome : Outcome) → IsJoinedFork sites root whole load rights at outcome → steps_in outcome ≤ all_left load.machine
-  steps-left-there load rights at outcome joins =
+module _ {M : Type 0} (m : Engine.Ghosts M) (sites : List SiteInfo) (root : Script) (whole : Run) where
+  pub steps-left-there : (progress : Progress M) (rights : Rights) (at : Place) (outcome : Outcome) → IsJoinedFork m sites root whole progress rights at outcome → steps_in outcome ≤ all_left (m.seen progress.machine)
+  steps-left-there progress rights at outcome joins =
       let f = joins.fork in
-      let limit = limit-left sites (value_in (cells_of root)) f.before (all_left load.machine) (made_by load.machine) f.on.run f.site.number f.limit f.cells f.moves f.children f.forked f.next f.rest f.on.keeps in
-      let within = joined-within f.limit (ends f.children) in
+      let limit = limit-left sites (value_in (cells_of root)) f.before (all_left (m.seen progress.machine)) (made_by (m.seen progress.machine)) f.on.run f.site.number f.limit f.cells f.moves f.children f.forked f.next f.rest f.on.keeps in
+      let within = joined_within f.limit (ends f.children) in
+      let counts = same-steps (joined f.limit (ends f.children)) in
       let steps = ap steps_in joins.joins in
-      omega (arith, within, steps, limit)
+      omega (arith, within, steps, limit, counts)
 
-  abbrev behind_it : Carried N → Machine → ℕ → Carried N
-  behind_it load machine reported = record load { machine = machine; reported = reported }
+  abbrev behind_it : Progress M → M → ℕ → Progress M
+  behind_it progress machine reported = record progress { machine = machine; reported = reported }
 
-  counted-behind : (load : Carried N) (machine : Machine) (site : ℕ) (outcome : Outcome) → IsCounted load.machine → HasRejoined load.machine machine site outcome → IsCounted machine
-  counted-behind load machine site outcome counted rejoined =
+  counted-behind : (progress : Progress M) (machine : M) (site : ℕ) (outcome : Outcome) → IsCounted (m.seen progress.machine) → HasRejoined (m.seen progress.machine) (m.seen machine) site outcome → IsCounted (m.seen machine)
+  counted-behind progress machine site outcome counted rejoined =
       let spent = rejoined.spent in
       let limit = rejoined.limit in
       let within = counted.within in
       let few = counted.few in
       record { within = omega (arith, spent, limit, within); few = omega (arith, limit, few) }
 
-  made-behind : (load : Carried N) (machine : Machine) (site : ℕ) (outcome : Outcome) → IsCounted load.machine → HasRejoined load.machine machine site outcome → made_by machine ≡ made_by load.machine + steps_in outcome
-  made-behind load machine site outcome counted rejoined =
-      ap (λ limit. limit - all_left machine) rejoined.limit ∙ made-more (all_left load.machine) (all_left machine) (steps_in outcome) load.machine.limit counted.within rejoined.spent
+  made-behind : (progress : Progress M) (machine : M) (site : ℕ) (outcome : Outcome) → IsCounted (m.seen progress.machine) → HasRejoined (m.seen progress.machine) (m.seen machine) site outcome → made_by (m.seen machine) ≡ made_by (m.seen progress.machine) + steps_in outcome
+  made-behind progress machine site outcome counted rejoined =
+      ap (λ limit. limit - all_left (m.seen machine)) rejoined.limit ∙ made-more (all_left (m.seen progress.machine)) (all_left (m.seen machine)) (steps_in outcome) (m.seen progress.machine).limit counted.within rejoined.spent
 
-  left-there : (load : Carried N) (rights : Rights) (at : Place) (outcome : Outcome) → (joins : IsJoinedFork sites root whole load rights at outcome) → left_of (place_behind at) ≡ Some joins.fork.rest
-  left-there load rights at outcome joins =
+  left-there : (progress : Progress M) (rights : Rights) (at : Place) (outcome : Outcome) → (joins : IsJoinedFork m sites root whole progress rights at outcome) → left_of (place_behind at) ≡ Some joins.fork.rest
+  left-there progress rights at outcome joins =
       let f = joins.fork in
-      next-in at.passed (script_named at.name (Some at.root)) (ForkThen f.limit f.cells f.moves f.children f.rest) f.on.left
+      left_next at (ForkThen f.limit f.cells f.moves f.children f.rest) f.on.left
 
   -- it goes on, where they ended well
-  goes-well : (load : Carried N) (rights : Rights) (at : Place) (outcome : Outcome) (machine : Machine) (reported steps : ℕ) (behind : Run) (info : SiteInfo)
-      → (joins : IsJoinedFork sites root whole load rights at outcome) → HasRejoined load.machine machine joins.fork.site.number outcome → outcome ≡ Fine steps
+  goes-well : (progress : Progress M) (rights : Rights) (at : Place) (outcome : Outcome) (machine : M) (reported steps : ℕ) (behind : Run) (info : SiteInfo)
+      → (joins : IsJoinedFork m sites root whole progress rights at outcome) → HasRejoined (m.seen progress.machine) (m.seen machine) joins.fork.site.number outcome → outcome ≡ Fine steps
       → slice_get sites joins.fork.site.number ≡ Some info → joins.fork.on.run ≡ behind_steps steps behind
-      → KeepsTo sites (value_in (cells_of root)) (rights_behind info joins.fork.cells joins.fork.before) (all_left load.machine - steps) (made_by load.machine + steps) behind (joins.fork.next (Joined steps)) joins.fork.rest
-      → IsOn sites root whole (behind_it load machine reported) rights (place_behind at) (joins.fork.next (Joined steps)) joins.fork.rest
-  goes-well load rights at outcome machine reported steps behind info joins rejoined fine found is keeps =
+      → KeepsTo sites (value_in (cells_of root)) (rights_behind info joins.fork.cells joins.fork.before) (all_left (m.seen progress.machine) - steps) (made_by (m.seen progress.machine) + steps) behind (joins.fork.next (Joined steps)) joins.fork.rest
+      → IsOn m sites root whole (behind_it progress machine reported) rights (place_behind at) (joins.fork.next (Joined steps)) joins.fork.rest
+  goes-well progress rights at outcome machine reported steps behind info joins rejoined fine found is keeps =
       let f = joins.fork in
       let steps_are : steps_in outcome ≡ steps = ap steps_in fine in
-      let made : made_by machine ≡ made_by load.machine + steps = made-behind load machine f.site.number outcome f.on.counted rejoined ∙ ap (λ n. made_by load.machine + n) steps_are in
+      let made : made_by (m.seen machine) ≡ made_by (m.seen progress.machine) + steps = made-behind progress machine f.site.number outcome f.on.counted rejoined ∙ ap (λ n. made_by (m.seen progress.machine) + n) steps_are in
       let spent = rejoined.spent in
-      let left : all_left load.machine - steps ≡ all_left machine = omega (arith, spent, steps_are) in
+      let left : all_left (m.seen progress.machine) - steps ≡ all_left (m.seen machine) = omega (arith, spent, steps_are) in
       let same : Some info ≡ Some f.info = sym found ∙ f.found in
       let handed : rights_behind info f.cells f.before ≡ rights = (let i : info ≡ f.info = cc in ap (λ (i : SiteInfo). rights_behind i f.cells f.before) i ∙ sym f.handed) in
       record {
         rooted = f.on.rooted;
-        left = left-there load rights at outcome joins;
+        left = left-there progress rights at outcome joins;
         run = behind;
-        keeps = subst (λ (r : Rights). KeepsTo sites (value_in (cells_of root)) r (all_left machine) (made_by machine) behind (f.next (Joined steps)) f.rest) handed
-          (subst (λ (n : ℕ). KeepsTo sites (value_in (cells_of root)) (rights_behind info f.cells f.before) n (made_by machine) behind (f.next (Joined steps)) f.rest) left
-            (subst (λ (n : ℕ). KeepsTo sites (value_in (cells_of root)) (rights_behind info f.cells f.before) (all_left load.machine - steps) n behind (f.next (Joined steps)) f.rest) (sym made) keeps));
+        keeps = subst (λ (r : Rights). KeepsTo sites (value_in (cells_of root)) r (all_left (m.seen machine)) (made_by (m.seen machine)) behind (f.next (Joined steps)) f.rest) handed
+          (subst (λ (n : ℕ). KeepsTo sites (value_in (cells_of root)) (rights_behind info f.cells f.before) n (made_by (m.seen machine)) behind (f.next (Joined steps)) f.rest) left
+            (subst (λ (n : ℕ). KeepsTo sites (value_in (cells_of root)) (rights_behind info f.cells f.before) (all_left (m.seen progress.machine) - steps) n behind (f.next (Joined steps)) f.rest) (sym made) keeps));
         means = rejoined.on steps fine f.forked f.next f.on.means;
-        counted = counted-behind load machine f.site.number outcome f.on.counted rejoined;
-        tells = λ named. subst (λ (n : ℕ). IsLeftOf whole load.given n behind) (sym made)
-          (left-behind whole steps load.given (made_by load.machine) behind (subst (λ (r : Run). IsLeftOf whole load.given (made_by load.machine) r) is (f.on.tells named)));
+        counted = counted-behind progress machine f.site.number outcome f.on.counted rejoined;
+        tells = λ named. subst (λ (n : ℕ). IsLeftOf whole progress.given n behind) (sym made)
+          (left_steps whole progress.given (made_by (m.seen progress.machine)) steps behind (subst (λ (r : Run). IsLeftOf whole progress.given (made_by (m.seen progress.machine)) r) is (f.on.tells named)));
       }
 
   -- it has stopped, where they did not
-  goes-badly : (load : Carried N) (rights : Rights) (at : Place) (outcome : Outcome) (machine : Machine) (reported : ℕ) (end : Outcome) → (joins : IsJoinedFork sites root whole load rights at outcome)
-      → HasRejoined load.machine machine joins.fork.site.number outcome → ((steps : ℕ) → outcome ≡ Fine steps → ⊥) → end ≡ later (made_by load.machine) outcome → ShowsEnd outcome joins.fork.on.run
-      → joins.fork.rest ≡ Ends end → (stop : Stop) × HasStopped sites root whole (behind_it load machine reported) stop end (place_behind at)
-  goes-badly load rights at (Fine steps) machine reported end joins rejoined not_fine is shows there = absurd (not_fine steps refl)
-  goes-badly load rights at Starved machine reported end joins rejoined not_fine is shows there = absurd (joins.is_fed refl)
-  goes-badly load rights at NoMemory machine reported end joins rejoined not_fine is shows there = absurd (joins.has_memory refl)
-  goes-badly load rights at (Raise text steps) machine reported end joins rejoined not_fine is shows there =
+  goes-badly : (progress : Progress M) (rights : Rights) (at : Place) (outcome : Outcome) (machine : M) (reported : ℕ) (end : Outcome) → (joins : IsJoinedFork m sites root whole progress rights at outcome)
+      → HasRejoined (m.seen progress.machine) (m.seen machine) joins.fork.site.number outcome → ((steps : ℕ) → outcome ≡ Fine steps → ⊥) → end ≡ later (made_by (m.seen progress.machine)) outcome → ShowsEnd outcome joins.fork.on.run
+      → joins.fork.rest ≡ Ends end → (stop : Stop) × HasStopped m sites root whole (behind_it progress machine reported) stop end (place_behind at)
+  goes-badly progress rights at (Fine steps) machine reported end joins rejoined not_fine is shows there = absurd (not_fine steps refl)
+  goes-badly progress rights at Starved machine reported end joins rejoined not_fine is shows there = absurd (joins.is_fed refl)
+  goes-badly progress rights at NoMemory machine reported end joins rejoined not_fine is shows there = absurd (joins.has_memory refl)
+  goes-badly progress rights at (Raise text steps) machine reported end joins rejoined not_fine is shows there =
       let f = joins.fork in
-      let made = made-behind load machine f.site.number (Raise text steps) f.on.counted rejoined in
+      let made = made-behind progress machine f.site.number (Raise text steps) f.on.counted rejoined in
       (
         Raised text,
         record {
           over = rejoined.over (Raised text) refl;
           rooted = f.on.rooted;
-          left = left-there load rights at (Raise text steps) joins ∙ ap (λ s. Some s) there;
+          left = left-there progress rights at (Raise text steps) joins ∙ ap (λ s. Some s) there;
           ends = is ∙ ap (Raise text) (sym made);
-          counted = counted-behind load machine f.site.number (Raise text steps) f.on.counted rejoined;
+          counted = counted-behind progress machine f.site.number (Raise text steps) f.on.counted rejoined;
           tells = λ named. record {
-            made = made_by machine;
+            made = made_by (m.seen machine);
             end = RunRaised text;
-            left = subst (λ (n : ℕ). IsLeftOf whole load.given n (RunEnds (RunRaised text))) (sym made)
-              (left-behind whole steps load.given (made_by load.machine) (RunEnds (RunRaised text)) (subst (λ (r : Run). IsLeftOf whole load.given (made_by load.machine) r) shows (f.on.tells named)));
+            left = subst (λ (n : ℕ). IsLeftOf whole progress.given n (RunEnds (RunRaised text))) (sym made)
+              (left_steps whole progress.given (made_by (m.seen progress.machine)) steps (RunEnds (RunRaised text)) (subst (λ (r : Run). IsLeftOf whole progress.given (made_by (m.seen progress.machine)) r) shows (f.on.tells named)));
             shows = refl;
             plain = λ plain. refl;
           };
         },
       )
-  goes-badly load rights at Limit machine reported end joins rejoined not_fine is shows there =
+  goes-badly progress rights at Limit machine reported end joins rejoined not_fine is shows there =
       let f = joins.fork in
       (
         LimitPassed,
         record {
           over = rejoined.over LimitPassed refl;
           rooted = f.on.rooted;
-          left = left-there load rights at Limit joins ∙ ap (λ s. Some s) there;
+          left = left-there progress rights at Limit joins ∙ ap (λ s. Some s) there;
           ends = is;
-          counted = counted-behind load machine f.site.number Limit f.on.counted rejoined;
+          counted = counted-behind progress machine f.site.number Limit f.on.counted rejoined;
           tells = λ named. record {
-            made = made_by load.machine + shows.0;
+            made = made_by (m.seen progress.machine) + shows.0;
             end = PastLimit;
-            left = left-behind whole shows.0 load.given (made_by load.machine) (RunEnds PastLimit) (subst (λ (r : Run). IsLeftOf whole load.given (made_by load.machine) r) shows.1 (f.on.tells named));
+            left = left_steps whole progress.given (made_by (m.seen progress.machine)) shows.0 (RunEnds PastLimit) (subst (λ (r : Run). IsLeftOf whole progress.given (made_by (m.seen progress.machine)) r) shows.1 (f.on.tells named));
             shows = refl;
             plain = λ plain. absurd (plain-forks at root f.limit f.cells f.moves f.children f.rest f.on.rooted named f.on.left plain);
           };
         },
       )
 
-  pub stands-behind : (load : Carried N) (rights : Rights) (at : Place) (outcome : Outcome) (machine : Machine) (reported : ℕ) → (joins : IsJoinedFork sites root whole load rights at outcome)
-      → HasRejoined load.machine machine joins.fork.site.number outcome → reported ≡ made_by machine → StandsAt sites root whole (behind_it load machine reported) rights (place_behind at)
-  stands-behind load rights at outcome machine reported joins rejoined reports =
+  pub stands-behind : (progress : Progress M) (rights : Rights) (at : Place) (outcome : Outcome) (machine : M) (reported : ℕ) → (joins : IsJoinedFork m sites root whole progress rights at outcome)
+      → HasRejoined (m.seen progress.machine) (m.seen machine) joins.fork.site.number outcome → reported ≡ made_by (m.seen machine) → StandsAt m sites root whole (behind_it progress machine reported) rights (place_behind at)
+  stands-behind progress rights at outcome machine reported joins rejoined reports =
       let f = joins.fork in
-      let comes = fork-comes sites (value_in (cells_of root)) f.before (all_left load.machine) (made_by load.machine) f.on.run f.site.number f.limit f.cells f.moves f.children f.forked f.next f.rest f.on.keeps in
+      let comes = fork-comes sites (value_in (cells_of root)) f.before (all_left (m.seen progress.machine)) (made_by (m.seen progress.machine)) f.on.run f.site.number f.limit f.cells f.moves f.children f.forked f.next f.rest f.on.keeps in
       (
         sym reports,
         elim comes [
           comes_well steps behind info found fine is keeps ↦ 
-            goes_on (f.next (Joined steps)) f.rest (goes-well load rights at outcome machine reported steps behind info joins rejoined (sym joins.joins ∙ fine) found is keeps)
+            goes_on (f.next (Joined steps)) f.rest (goes-well progress rights at outcome machine reported steps behind info joins rejoined (sym joins.joins ∙ fine) found is keeps)
         | comes_badly end not_fine is shows there ↦ (
-            let stopped = goes-badly load rights at outcome machine reported end joins rejoined (λ steps fine. not_fine steps (joins.joins ∙ fine))
-                (is ∙ ap (later (made_by load.machine)) joins.joins) (subst (λ (o : Outcome). ShowsEnd o f.on.run) joins.joins shows) there in
+            let stopped = goes-badly progress rights at outcome machine reported end joins rejoined (λ steps fine. not_fine steps (joins.joins ∙ fine))
+                (is ∙ ap (later (made_by (m.seen progress.machine))) joins.joins) (subst (λ (o : Outcome). ShowsEnd o f.on.run) joins.joins shows) there in
             has_stopped stopped.0 end stopped.1)
         ],
       )

@@ -16,55 +16,54 @@ use Rattle.merc_board.specs.declared.branch.Branch.{Branch}
 use Rattle.merc_board.specs.Rights.{Rights}
 use Rattle.merc_board.specs.Going.{next, Ticked}
 use Rattle.merc_board.specs.Boarding.{MayEnd, at_end, lost, lost_at, starves, IsJoined}
+use Rattle.merc_carried.proofs.Places.{not_ticked}
+use Rattle.merc_pool.specs.declared.engine.Engine as Engine
 use Rattle.merc_pool.specs.declared.load.Asked as Asked
 use Rattle.merc_pool.specs.declared.load.Carried.{Carried}
+use Rattle.merc_pool.specs.declared.load.Progress.{Progress}
 use Rattle.merc_pool.specs.Carrying.{made_by, IsCounted, IsReported, Stands, goes_on, has_stopped, ForkedAt}
 use Rattle.merc_pool.specs.Running.{StoppedAt}
 use Rattle.merc_pool.specs.Ending.{IsOutcomeOf, IsJoinedFork}
 use Rattle.merc_pool.specs.Hands.{CanEnd, CameTo, HasComeTo, HasPassed, IsAtAnswer, IsLive, IsParent, IsRooted, RootCameTo}
 
-module _ {N : Type 0} (sites : List SiteInfo) (root : Script) (whole : Run) where
-  stands-counted : (load : Carried N) (rights : Rights) (at : Place) → Stands sites root whole load rights at → IsCounted load.machine
-  stands-counted load rights at (goes_on course rest on) = on.counted
-  stands-counted load rights at (has_stopped stop end stopped) = stopped.counted
+module _ {M : Type 0} (m : Engine.Ghosts M) (sites : List SiteInfo) (root : Script) (whole : Run) where
+  stands-counted : (progress : Progress M) (rights : Rights) (at : Place) → Stands m sites root whole progress rights at → IsCounted (m.seen progress.machine)
+  stands-counted progress rights at (goes_on course rest on) = on.counted
+  stands-counted progress rights at (has_stopped stop end stopped) = stopped.counted
 
-  stands-left : (load : Carried N) (rights : Rights) (at : Place) → Stands sites root whole load rights at → (rest : Script) × (left_of at ≡ Some rest)
-  stands-left load rights at (goes_on course rest on) = (rest, on.left)
-  stands-left load rights at (has_stopped stop end stopped) = (_, stopped.left)
+  stands-left : (progress : Progress M) (rights : Rights) (at : Place) → Stands m sites root whole progress rights at → (rest : Script) × (left_of at ≡ Some rest)
+  stands-left progress rights at (goes_on course rest on) = (rest, on.left)
+  stands-left progress rights at (has_stopped stop end stopped) = (_, stopped.left)
 
   -- wherever it has stopped its steps are counted
-  pub stopped-counted : (load : Carried N) (rights : Rights) (at : Place) (stop : Stop) → StoppedAt sites root whole load rights at stop → IsCounted load.machine
-  stopped-counted load rights at Answer there = there.on.counted
-  stopped-counted load rights at Ended there = there.1.counted
-  stopped-counted load rights at (Raised text) there = there.1.counted
-  stopped-counted load rights at LimitPassed there = there.1.counted
-  stopped-counted load rights at StarvedStop there = absurd there
-  stopped-counted load rights at (AtFork site) there = there.1.on.counted
-  stopped-counted load rights at (AtWait variable) there = there.1.on.counted
-  stopped-counted load rights at (AtSignal variable) there = there.1.on.counted
-  stopped-counted load rights at SliceOver there = stands-counted load rights at there
-  stopped-counted load rights at NoMemoryStop there = absurd there
+  pub stopped-counted : (progress : Progress M) (rights : Rights) (at : Place) (stop : Stop) → StoppedAt m sites root whole progress rights at stop → IsCounted (m.seen progress.machine)
+  stopped-counted progress rights at Answer there = there.on.counted
+  stopped-counted progress rights at Ended there = there.1.counted
+  stopped-counted progress rights at (Raised text) there = there.1.counted
+  stopped-counted progress rights at LimitPassed there = there.1.counted
+  stopped-counted progress rights at StarvedStop there = absurd there
+  stopped-counted progress rights at (AtFork site) there = there.1.on.counted
+  stopped-counted progress rights at (AtWait variable) there = there.1.on.counted
+  stopped-counted progress rights at (AtSignal variable) there = there.1.on.counted
+  stopped-counted progress rights at SliceOver there = stands-counted progress rights at there
+  stopped-counted progress rights at NoMemoryStop there = absurd there
 
   -- .. and something of its script is left
-  pub stopped-left : (load : Carried N) (rights : Rights) (at : Place) (stop : Stop) → StoppedAt sites root whole load rights at stop → (rest : Script) × (left_of at ≡ Some rest)
-  stopped-left load rights at Answer there = (there.rest, there.on.left)
-  stopped-left load rights at Ended there = (_, there.1.left)
-  stopped-left load rights at (Raised text) there = (_, there.1.left)
-  stopped-left load rights at LimitPassed there = (_, there.1.left)
-  stopped-left load rights at StarvedStop there = absurd there
-  stopped-left load rights at (AtFork site) there = (_, there.1.on.left)
-  stopped-left load rights at (AtWait variable) there = (_, there.1.on.left)
-  stopped-left load rights at (AtSignal variable) there = (_, there.1.on.left)
-  stopped-left load rights at SliceOver there = stands-left load rights at there
-  stopped-left load rights at NoMemoryStop there = absurd there
+  pub stopped-left : (progress : Progress M) (rights : Rights) (at : Place) (stop : Stop) → StoppedAt m sites root whole progress rights at stop → (rest : Script) × (left_of at ≡ Some rest)
+  stopped-left progress rights at Answer there = (there.rest, there.on.left)
+  stopped-left progress rights at Ended there = (_, there.1.left)
+  stopped-left progress rights at (Raised text) there = (_, there.1.left)
+  stopped-left progress rights at LimitPassed there = (_, there.1.left)
+  stopped-left progress rights at StarvedStop there = absurd there
+  stopped-left progress rights at (AtFork site) there = (_, there.1.on.left)
+  stopped-left progress rights at (AtWait variable) there = (_, there.1.on.left)
+  stopped-left progress rights at (AtSignal variable) there = (_, there.1.on.left)
+  stopped-left progress rights at SliceOver there = stands-left progress rights at there
+  stopped-left progress rights at NoMemoryStop there = absurd there
 
 -- a worker of which is not known that it may run
 pub never-allowed : {A : Type 0} → false ≡ true → A
 never-allowed is = absurd (cc)
-
--- no Tick is passed
-pub none-ticked : (at : Place) (rest : Script) → left_of at ≡ Some rest → Ticked at 0 at
-none-ticked at rest left = record { same_root = refl; same_name = refl; passed = (omega arith); rest = rest; before = left; after = left }
 
 -- an outcome that is neither want of memory nor starving is the one of the conjuncts
 pub joined-truly : (own : Place → Type 0) (runs starved : Type 0) (at : Place) (limit : ℕ) (children : Children) (outcome : Outcome) → outcome ≢ NoMemory → outcome ≢ Starved
@@ -75,21 +74,21 @@ joined-truly own runs starved at limit children (Fine steps) kept fed came = cam
 joined-truly own runs starved at limit children (Raise text steps) kept fed came = came
 joined-truly own runs starved at limit children Limit kept fed came = came
 
-module _ {N B H S W G C : Type 0} (n : Asked.Ghosts N) (b : Board.Ghosts B (Carried N) H S W G C) (board : B) (seat : S) where
-  lost-there : (branch : Branch (Carried N) H) (stop : Stop) (outcome : Outcome) → HasComeTo n b board seat branch stop → outcome ≡ NoMemory → CanEnd n b board seat branch outcome
-  lost-there branch stop outcome come is = subst (λ (o : Outcome). CanEnd n b board seat branch o) (sym is) (lost_at come.0 come.1)
+module _ {M N B H S W G C : Type 0} (m : Engine.Ghosts M) (n : Asked.Ghosts N) (b : Board.Ghosts B (Carried M N) H S W G C) (board : B) (seat : S) where
+  lost-there : (branch : Branch (Carried M N) H) (stop : Stop) (outcome : Outcome) → HasComeTo m n b board seat branch stop → outcome ≡ NoMemory → CanEnd m n b board seat branch outcome
+  lost-there branch stop outcome come is = subst (λ (o : Outcome). CanEnd m n b board seat branch o) (sym is) (lost_at come.0 come.1)
 
   -- a branch may end as its machine has stopped
-  pub can-end : (branch : Branch (Carried N) H) (stop : Stop) (outcome : Outcome) → HasComeTo n b board seat branch stop → IsOutcomeOf branch.load.machine stop outcome → CanEnd n b board seat branch outcome
+  pub can-end : (branch : Branch (Carried M N) H) (stop : Stop) (outcome : Outcome) → HasComeTo m n b board seat branch stop → IsOutcomeOf (m.seen branch.load.progress.machine) stop outcome → CanEnd m n b board seat branch outcome
   can-end branch Ended outcome come is =
       let stopped = come.3.1 in
-      subst (λ (o : Outcome). CanEnd n b board seat branch o) (stopped.ends ∙ sym is) (at_end come.0 come.3.0 come.1 stopped.left (come.2, has_stopped Ended come.3.0 stopped))
+      subst (λ (o : Outcome). CanEnd m n b board seat branch o) (stopped.ends ∙ sym is) (at_end come.0 come.3.0 come.1 stopped.left (come.2, has_stopped Ended come.3.0 stopped))
   can-end branch (Raised text) outcome come is =
       let stopped = come.3.1 in
-      subst (λ (o : Outcome). CanEnd n b board seat branch o) (stopped.ends ∙ sym is) (at_end come.0 come.3.0 come.1 stopped.left (come.2, has_stopped (Raised text) come.3.0 stopped))
+      subst (λ (o : Outcome). CanEnd m n b board seat branch o) (stopped.ends ∙ sym is) (at_end come.0 come.3.0 come.1 stopped.left (come.2, has_stopped (Raised text) come.3.0 stopped))
   can-end branch LimitPassed outcome come is =
       let stopped = come.3.1 in
-      subst (λ (o : Outcome). CanEnd n b board seat branch o) (stopped.ends ∙ sym is) (at_end come.0 come.3.0 come.1 stopped.left (come.2, has_stopped LimitPassed come.3.0 stopped))
+      subst (λ (o : Outcome). CanEnd m n b board seat branch o) (stopped.ends ∙ sym is) (at_end come.0 come.3.0 come.1 stopped.left (come.2, has_stopped LimitPassed come.3.0 stopped))
   can-end branch Answer outcome come is = lost-there branch Answer outcome come is
   can-end branch StarvedStop outcome come is = lost-there branch StarvedStop outcome come is
   can-end branch (AtFork site) outcome come is = lost-there branch (AtFork site) outcome come is
@@ -98,24 +97,24 @@ module _ {N B H S W G C : Type 0} (n : Asked.Ghosts N) (b : Board.Ghosts B (Carr
   can-end branch SliceOver outcome come is = lost-there branch SliceOver outcome come is
   can-end branch NoMemoryStop outcome come is = lost-there branch NoMemoryStop outcome come is
 
-  pub come-counted : (branch : Branch (Carried N) H) (stop : Stop) → HasComeTo n b board seat branch stop → IsCounted branch.load.machine
-  come-counted branch stop come = stopped-counted n.sites n.root n.run branch.load (b.rights branch.hold) come.0 stop come.3
+  pub come-counted : (branch : Branch (Carried M N) H) (stop : Stop) → HasComeTo m n b board seat branch stop → IsCounted (m.seen branch.load.progress.machine)
+  come-counted branch stop come = stopped-counted m n.sites n.root n.run branch.load.progress (b.rights branch.hold) come.0 stop come.3
 
   -- the root has come so, of which its board was told all
-  pub root-came : (branch : Branch (Carried N) H) (stop : Stop) → HasComeTo n b board seat branch stop → ((at : Place) → b.own board seat branch.hold at → at.name ≡ []) → RootCameTo n b board seat branch stop
+  pub root-came : (branch : Branch (Carried M N) H) (stop : Stop) → HasComeTo m n b board seat branch stop → ((at : Place) → b.own board seat branch.hold at → at.name ≡ []) → RootCameTo m n b board seat branch stop
   root-came branch stop come named =
-      let left = stopped-left n.sites n.root n.run branch.load (b.rights branch.hold) come.0 stop come.3 in
+      let left = stopped-left m n.sites n.root n.run branch.load.progress (b.rights branch.hold) come.0 stop come.3 in
       let reported = come.2 in
       (
         come.0,
         named come.0 come.1,
-        record { from = come.0; passed = 0; owned = come.1; ticked = none-ticked come.0 left.0 left.1; reported = omega (arith, reported) },
+        record { from = come.0; passed = 0; owned = come.1; ticked = not_ticked come.0 left.0 left.1; reported = omega (arith, reported) },
         come.3,
       )
 
   -- an answer of the root, counted
-  pub has-answer : (branch : Branch (Carried N) H) (given : ℕ) → given ≡ suc branch.load.given → RootCameTo n b board seat branch Answer
-      → IsAtAnswer n b board seat (record branch { load = record branch.load { given = given } })
+  pub has-answer : (branch : Branch (Carried M N) H) (given : ℕ) → given ≡ suc branch.load.progress.given → RootCameTo m n b board seat branch Answer
+      → IsAtAnswer m n b board seat (record branch { load = record branch.load { progress = record branch.load.progress { given = given } } })
   has-answer branch given is came =
       let there = came.3 in
       record {
@@ -123,17 +122,17 @@ module _ {N B H S W G C : Type 0} (n : Asked.Ghosts N) (b : Board.Ghosts B (Carr
           at = came.0;
           named = came.1;
           passed = record { from = came.2.from; passed = came.2.passed; owned = came.2.owned; ticked = came.2.ticked; reported = came.2.reported };
-          stands = subst (λ (k : ℕ). Stands n.sites n.root n.run (record branch.load { given = k }) (b.rights branch.hold) came.0) (sym is) (goes_on there.course there.rest there.on);
+          stands = subst (λ (k : ℕ). Stands m n.sites n.root n.run (record branch.load.progress { given = k }) (b.rights branch.hold) came.0) (sym is) (goes_on there.course there.rest there.on);
         };
         values = there.values;
-        before = branch.load.given;
+        before = branch.load.progress.given;
         answered = there.answered;
         counted = is;
         is_next = there.is_next came.1;
       }
 
   -- another stop of the root
-  pub came-to : (branch : Branch (Carried N) H) (stop : Stop) → stop ≢ Answer → RootCameTo n b board seat branch stop → CameTo n b board seat branch stop
+  pub came-to : (branch : Branch (Carried M N) H) (stop : Stop) → stop ≢ Answer → RootCameTo m n b board seat branch stop → CameTo m n b board seat branch stop
   came-to branch Answer other came = absurd (other refl)
   came-to branch Ended other came = came.3.1.tells came.1
   came-to branch (Raised text) other came = came.3.1.tells came.1
@@ -146,26 +145,26 @@ module _ {N B H S W G C : Type 0} (n : Asked.Ghosts N) (b : Board.Ghosts B (Carr
   came-to branch NoMemoryStop other came = tt
 
   -- Behind the call that says what its conjuncts came to, a parent ends for want of memory, or as one that starved.
-  pub parent-ends : (before : S) (parent : Branch (Carried N) H) (hold : H) (outcome : Outcome) → (is : IsParent n b board before parent)
+  pub parent-ends : (before : S) (parent : Branch (Carried M N) H) (hold : H) (outcome : Outcome) → (is : IsParent m n b board before parent)
       → ((at : Place) (limit : ℕ) (cells : List Cell) (moves : List Move) (children : Children) (rest : Script) → b.holds board before parent.hold at → left_of at ≡ Some (ForkThen limit cells moves children rest)
           → IsJoined (b.own board seat hold) (b.runs board seat hold) (b.starved board seat hold) at limit children outcome)
-      → (outcome ≡ NoMemory) ⊎ (outcome ≡ Starved) → CanEnd n b board seat (record parent { hold = hold }) outcome
+      → (outcome ≡ NoMemory) ⊎ (outcome ≡ Starved) → CanEnd m n b board seat (record parent { hold = hold }) outcome
   parent-ends before parent hold outcome is came (inl lost_it) =
       let f = is.2 in
       let there = came is.0 f.limit f.cells f.moves f.children f.rest is.1 f.on.left in
-      subst (λ (o : Outcome). CanEnd n b board seat (record parent { hold = hold }) o) (sym lost_it)
+      subst (λ (o : Outcome). CanEnd m n b board seat (record parent { hold = hold }) o) (sym lost_it)
         (lost (subst (λ (o : Outcome). IsJoined (b.own board seat hold) (b.runs board seat hold) (b.starved board seat hold) is.0 f.limit f.children o) lost_it there))
   parent-ends before parent hold outcome is came (inr starves_now) =
       let f = is.2 in
       let there = came is.0 f.limit f.cells f.moves f.children f.rest is.1 f.on.left in
-      subst (λ (o : Outcome). CanEnd n b board seat (record parent { hold = hold }) o) (sym starves_now)
+      subst (λ (o : Outcome). CanEnd m n b board seat (record parent { hold = hold }) o) (sym starves_now)
         (starves (subst (λ (o : Outcome). IsJoined (b.own board seat hold) (b.runs board seat hold) (b.starved board seat hold) is.0 f.limit f.children o) starves_now there))
 
   -- .. or goes on that says what its conjuncts came to
-  pub parent-joins : (before : S) (parent : Branch (Carried N) H) (hold : H) (outcome : Outcome) → (is : IsParent n b board before parent) → b.rights hold ≡ b.rights parent.hold
+  pub parent-joins : (before : S) (parent : Branch (Carried M N) H) (hold : H) (outcome : Outcome) → (is : IsParent m n b board before parent) → b.rights hold ≡ b.rights parent.hold
       → ((at : Place) (limit : ℕ) (cells : List Cell) (moves : List Move) (children : Children) (rest : Script) → b.holds board before parent.hold at → left_of at ≡ Some (ForkThen limit cells moves children rest)
           → IsJoined (b.own board seat hold) (b.runs board seat hold) (b.starved board seat hold) at limit children outcome)
-      → outcome ≢ NoMemory → outcome ≢ Starved → IsJoinedFork n.sites n.root n.run parent.load (b.rights hold) is.0 outcome × b.own board seat hold (next is.0)
+      → outcome ≢ NoMemory → outcome ≢ Starved → IsJoinedFork m n.sites n.root n.run parent.load.progress (b.rights hold) is.0 outcome × b.own board seat hold (next is.0)
   parent-joins before parent hold outcome is same came kept fed =
       let f = is.2 in
       let joins = joined-truly (b.own board seat hold) (b.runs board seat hold) (b.starved board seat hold) is.0 f.limit f.children outcome kept fed (came is.0 f.limit f.cells f.moves f.children f.rest is.1 f.on.left) in

@@ -1,7 +1,6 @@
 pub mod Mapped
 pub mod SharesMade
-pub mod LeftRuns
-pub mod JoinedSteps
 pub mod BehindForks
 pub mod Ends
 pub mod Told
+pub mod Ran

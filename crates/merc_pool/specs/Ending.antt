@@ -11,7 +11,8 @@ use Rattle.merc_machine.specs.declared.machine.Machine.{Machine}
 use Rattle.merc_machine.specs.declared.running.Stop.{Stop}
 use Rattle.merc_machine.specs.declared.running.Stop.TheVariants.{Answer, Ended, Raised, LimitPassed, Starved as StarvedStop, AtFork, AtWait, AtSignal, SliceOver, NoMemory as NoMemoryStop}
 use Rattle.merc_board.specs.Rights.{Rights}
-use Rattle.merc_pool.specs.declared.load.Carried.{Carried}
+use Rattle.merc_pool.specs.declared.engine.Engine as Engine
+use Rattle.merc_pool.specs.declared.load.Progress.{Progress}
 use Rattle.merc_pool.specs.Carrying.{made_by, ForkedAt}
 
 -- the outcome of a branch other than the root whose machine has stopped so
@@ -27,10 +28,10 @@ IsOutcomeOf machine (AtSignal variable) outcome = outcome ≡ NoMemory
 IsOutcomeOf machine SliceOver outcome = outcome ≡ NoMemory
 IsOutcomeOf machine NoMemoryStop outcome = outcome ≡ NoMemory
 
-module _ {N : Type 0} (sites : List SiteInfo) (root : Script) (whole : Run) where
+module _ {M : Type 0} (m : Engine.Ghosts M) (sites : List SiteInfo) (root : Script) (whole : Run) where
   -- A machine stands at a fork whose conjuncts join to this outcome, and behind which it can go on.
-  pub record IsJoinedFork (load : Carried N) (rights : Rights) (at : Place) (outcome : Outcome) : Type 0 where
-    pub fork : ForkedAt sites root whole load rights at
+  pub record IsJoinedFork (progress : Progress M) (rights : Rights) (at : Place) (outcome : Outcome) : Type 0 where
+    pub fork : ForkedAt m sites root whole progress rights at
     pub joins : joined fork.limit (ends fork.children) ≡ outcome
     pub has_memory : outcome ≢ NoMemory
     pub is_fed : outcome ≢ Starved

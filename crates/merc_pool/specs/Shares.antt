@@ -1,20 +1,8 @@
 -- What is made ready for a board, of each site.
 use Rattle.std.specs.Prelude.{◌≡◌, ℕ, List, Option, Some, None, length, slice_get}
-use Rattle.merc_rights.specs.declared.sites.CellInfo.{CellInfo}
-use Rattle.merc_rights.specs.declared.sites.Moved.{Moved}
 use Rattle.merc_rights.specs.declared.sites.SiteInfo.{SiteInfo}
-use Rattle.merc_board.specs.declared.fork.SharedCell.{SharedCell}
-use Rattle.merc_board.specs.declared.fork.Handover.{Handover}
 use Rattle.merc_carried.specs.Sharing.{shared_of, given_of}
 use Rattle.merc_pool.specs.declared.shares.Share.{Share}
-
--- a cell of a site, as a board is told it
-abbrev pub shared_cell : CellInfo → SharedCell
-shared_cell one = record { variable = one.variable; producer = one.producer; consumer = one.consumer }
-
--- a right that moves there
-abbrev pub handover : Moved → Handover
-handover one = record { variable = one.variable; child = one.child; signal = one.signal }
 
 pub record IsShare (info : SiteInfo) (share : Share) : Type 0 where
   pub same_count : share.children ≡ info.children

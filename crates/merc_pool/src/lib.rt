@@ -1,8 +1,10 @@
 //! Sessions: the answers of what is asked, one after the other, by workers over a board.
 #![tactic(auto)]
 
+pub mod crew;
 pub mod desk;
 pub mod ending;
+pub mod engine;
 pub mod forking;
 pub mod hand;
 pub mod load;
@@ -16,6 +18,7 @@ pub mod telling;
 pub mod turn;
 pub mod work;
 
+pub use engine::Engine;
 pub use load::{Asked, Carried};
 pub use merc_machine::Ticks;
 pub use next::Next;

@@ -1,43 +1,32 @@
 //! Slices of a branch.
-ghost use Rattle.std.specs.Prelude.{◌≡◌, ◌≤◌, ℕ};
+ghost use Rattle.std.specs.Prelude.{◌≤◌};
 ghost use Rattle.merc_board.specs.Rights.{Rights};
 ghost use Rattle.merc_script.specs.Places.{Place};
 ghost use Rattle.merc_pool.specs.Carrying.{Stands};
 ghost use Rattle.merc_pool.specs.Running.{CountsSlice, RunsTo};
 
-use crate::load::{Asked, Carried};
+use crate::engine::Engine;
+use crate::load::{Asked, Progress};
 use merc_base::Gate;
 use merc_machine::{Stop, Ticks};
-use std::mem;
 
-/// Runs the machine of a branch up to its next stop, or so many steps. Before its first step a conjunct enters the gate.
-pub(crate) fn run_slice<'a, N: Asked, G: Gate>(
+/// Runs the machine of a branch up to its next stop, or so many steps, which are counted. Before its first step a conjunct
+/// enters the gate.
+pub(crate) fn run_slice<M: Engine, N: Asked, G: Gate>(
     gate: &G,
     slice: u32,
+    enters: &mut u32,
     ticks: &mut Ticks,
-    load: &mut Carried<'a, N>,
+    progress: &mut Progress<M>,
 ) -> Stop
     requires slice { 1 ≤ slice }
-    requires stands { (rights : Rights) × (from : Place) × Stands N.sites N.root N.run load.old rights from }
-    ensures runs { (rights : Rights) (from : Place) → Stands N.sites N.root N.run load.old rights from → RunsTo N.sites N.root N.run slice load.old load.new rights from result }
-    ensures counts { CountsSlice load.old load.new ticks.old ticks.new result }
-    ensures own { load.new.ticks ≡ load.old.ticks }
+    requires stands { (rights : Rights) × (from : Place) × Stands M.Engine N.sites N.root N.run progress.old rights from }
+    ensures runs { (rights : Rights) (from : Place) → Stands M.Engine N.sites N.root N.run progress.old rights from → RunsTo M.Engine N.sites N.root N.run slice progress.old progress.new rights from result }
+    ensures counts { CountsSlice (M.seen progress.old.machine) (M.seen progress.new.machine) ticks.old ticks.new result }
 {
-    todo!()
-}
-
-/// The same of the root, whose load counts its steps.
-pub(crate) fn run_root_slice<'a, N: Asked, G: Gate>(
-    gate: &G,
-    slice: u32,
-    load: &mut Carried<'a, N>,
-) -> Stop
-    requires slice { 1 ≤ slice }
-    requires stands { (rights : Rights) × (from : Place) × Stands N.sites N.root N.run load.old rights from }
-    ensures runs { (rights : Rights) (from : Place) → Stands N.sites N.root N.run load.old rights from → RunsTo N.sites N.root N.run slice load.old load.new rights from result }
-    ensures counts { CountsSlice load.old load.new load.old.ticks load.new.ticks result }
-{
-    todo!()
+    pass_gate(gate, enters);
+    progress.stop = progress.machine.run(slice, ticks);
+    progress.stop
 }
 
 // Enters the gate for a conjunct that has not begun, which then has.

@@ -1,6 +1,7 @@
 //! What a board is told of the forks of a program, made ready once.
-ghost use Rattle.std.specs.Prelude.{◌≡◌, IfOk, map};
-ghost use Rattle.merc_pool.specs.Shares.{AreShares, IsShare, handover, shared_cell};
+ghost use Rattle.std.specs.Prelude.{◌≡◌, IfOk};
+ghost use Rattle.merc_carried.specs.Sharing.{cells_shared, moves_given};
+ghost use Rattle.merc_pool.specs.Shares.{AreShares, IsShare};
 
 use merc_base::NoMemory;
 use merc_board::{Handover, SharedCell};
@@ -37,33 +38,29 @@ pub fn shares_of(alloc: Global, plan: &Plan) -> Result<Vec<Share>, NoMemory>
 fn share_of(alloc: Global, info: &SiteInfo) -> Result<Share, NoMemory>
     ensures { IfOk result (λ share. IsShare info.now share) }
 {
-    let shared = shared_cells(alloc, info.cells.as_slice())?;
-    let given = handovers(alloc, info.moves.as_slice())?;
     Ok(Share {
         children: info.children,
-        shared,
-        given,
+        shared: shared_of(alloc, info.cells.as_slice())?,
+        given: given_of(alloc, info.moves.as_slice())?,
     })
 }
 
-// Cells of a site, as a board is told them.
-fn shared_cells(alloc: Global, cells: &[CellInfo]) -> Result<Vec<SharedCell>, NoMemory>
-    ensures { IfOk result (λ shared. shared.items ≡ map shared_cell cells.now) }
+fn shared_of(alloc: Global, cells: &[CellInfo]) -> Result<Vec<SharedCell>, NoMemory>
+    ensures { IfOk result (λ shared. shared.items ≡ cells_shared cells.now) }
 {
     let mut shared = Vec::new(alloc);
-    for cell in cells {
+    for one in cells {
         shared.push(SharedCell {
-            variable: cell.variable,
-            producer: cell.producer,
-            consumer: cell.consumer,
+            variable: one.variable,
+            producer: one.producer,
+            consumer: one.consumer,
         })?;
     }
     Ok(shared)
 }
 
-// Rights that move at a site, as a board is told them.
-fn handovers(alloc: Global, moves: &[Moved]) -> Result<Vec<Handover>, NoMemory>
-    ensures { IfOk result (λ given. given.items ≡ map handover moves.now) }
+fn given_of(alloc: Global, moves: &[Moved]) -> Result<Vec<Handover>, NoMemory>
+    ensures { IfOk result (λ given. given.items ≡ moves_given moves.now) }
 {
     let mut given = Vec::new(alloc);
     for one in moves {

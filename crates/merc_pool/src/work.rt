@@ -1,31 +1,30 @@
-//! Workers, each in a thread of its own where one can be made.
-ghost use Rattle.std.specs.Prelude.{◌<◌, length};
+//! The work of one worker.
 ghost use Rattle.merc_pool.specs.Hands.{IsAllowed, IsAtWork};
 ghost use Rattle.merc_pool.specs.Shares.{AreShares};
-ghost use Rattle.merc_pool.specs.Working.{AllAtWork, AllDone, FoundIs, IsDone};
+ghost use Rattle.merc_pool.specs.Working.{FoundIs, IsDone};
 
+use crate::engine::Engine;
 use crate::hand::Hand;
 use crate::load::{Asked, Carried};
 use crate::shared::{Shared, Slot, Worker};
+use crate::crew::Works;
 use crate::turn::{take, turn};
 use merc_base::Gate;
 use merc_board::Board;
 use std::mem;
 use std::sync::Wait;
-use std::thread;
-use std::thread::Threads;
 
 // Makes a worker's turns until it has the root back, or the run is over.
-fn work<'a, N: Asked + Send, B: Board<Carried<'a, N>>, G: Gate, R: Wait>(
+fn work<M: Engine, N: Asked + Send, B: Board<Carried<M, N>>, G: Gate, R: Wait>(
     rt: &R,
     shared: &Shared<B>,
     gate: &G,
     worker: &mut Worker<B::Seat>,
-    mut hand: Hand<Carried<'a, N>, B::Hold>,
-) -> Hand<Carried<'a, N>, B::Hold>
+    mut hand: Hand<Carried<M, N>, B::Hold>,
+) -> Hand<Carried<M, N>, B::Hold>
     requires sites { AreShares N.sites shared.now.sites.items }
-    requires work { IsAtWork N.Asked B.Board shared.now.board worker.old hand }
-    ensures { IsDone N.Asked B.Board shared.now.board worker.new result }
+    requires work { IsAtWork M.Engine N.Asked B.Board shared.now.board worker.old hand }
+    ensures { IsDone M.Engine N.Asked B.Board shared.now.board worker.new result }
 {
     for _ in rt.forever() {
         hand = match hand {
@@ -45,20 +44,20 @@ fn work<'a, N: Asked + Send, B: Board<Carried<'a, N>>, G: Gate, R: Wait>(
 
 // Looks for a branch until there is one, or the run is over. What was counted before the look is remembered, so that no
 // branch that comes after it is missed.
-fn find<'a, N: Asked + Send, B: Board<Carried<'a, N>>, R: Wait>(
+fn find<M: Engine, N: Asked + Send, B: Board<Carried<M, N>>, R: Wait>(
     rt: &R,
     shared: &Shared<B>,
     worker: &mut Worker<B::Seat>,
-) -> Option<Hand<Carried<'a, N>, B::Hold>>
+) -> Option<Hand<Carried<M, N>, B::Hold>>
     requires free { B.free shared.now.board worker.old.seat }
-    requires allowed { IsAllowed N.Asked B.Board worker.old }
-    ensures { FoundIs N.Asked B.Board shared.now.board worker.new result }
+    requires allowed { IsAllowed M.Engine N.Asked B.Board worker.old }
+    ensures { FoundIs M.Engine N.Asked B.Board shared.now.board worker.new result }
 {
     for _ in rt.forever() {
         let Some(seen) = shared.desk.seen(rt) else {
             return None;
         };
-        match take::<N, B, R>(rt, shared, worker) {
+        match take::<M, N, B, R>(rt, shared, worker) {
             Hand::Empty => shared.desk.wait_past(rt, seen),
             hand => return Some(hand),
         }
@@ -66,48 +65,17 @@ fn find<'a, N: Asked + Send, B: Board<Carried<'a, N>>, R: Wait>(
     unreachable!()
 }
 
-// The same of a worker with what it has in hand.
-fn work_on<'a, N: Asked + Send, B: Board<Carried<'a, N>>, G: Gate, R: Wait>(
-    rt: &R,
-    shared: &Shared<B>,
-    gate: &G,
-    slot: &mut Slot<Carried<'a, N>, B::Hold, B::Seat, (B::WaitRight, B::SignalRight, B::Children)>,
-)
-    requires sites { AreShares N.sites shared.now.sites.items }
-    requires work { IsAtWork N.Asked B.Board shared.now.board slot.old.worker slot.old.hand }
-    ensures { IsDone N.Asked B.Board shared.now.board slot.new.worker slot.new.hand }
+impl<M: Engine, N: Asked + Send, B: Board<Carried<M, N>>, G: Gate> Works<Shared<B>, G>
+    for Slot<M, N, B>
 {
-    let hand = mem::replace(&mut slot.hand, Hand::Empty);
-    slot.hand = work(rt, shared, gate, &mut slot.worker, hand);
-}
+    ghost use Rattle.merc_pool.specs.Working.{IsSlotAtWork, IsSlotDone};
 
-/// Lets workers run side by side, each in a thread of its own where one can be made, until the root is back. The last one
-/// runs in this thread, before any other for which none can be made.
-pub(crate) fn work_all<
-    'a,
-    N: Asked + Send,
-    B: Board<Carried<'a, N>>,
-    G: Gate + Sync,
-    R: Threads + Wait + Sync,
->(
-    rt: &R,
-    shared: &Shared<B>,
-    gate: &G,
-    slots: &mut [Slot<Carried<'a, N>, B::Hold, B::Seat, (B::WaitRight, B::SignalRight, B::Children)>],
-)
-    requires sites { AreShares N.sites shared.now.sites.items }
-    requires work { AllAtWork N.Asked B.Board shared.now.board slots.old }
-    requires some { 0 < length slots.old }
-    ensures { AllDone N.Asked B.Board shared.now.board slots.new }
-{
-    let count = slots.len();
-    thread::for_each_mut(
-        rt,
-        slots,
-        count,
-        &|_, slot: &mut Slot<Carried<'a, N>, B::Hold, B::Seat, (B::WaitRight, B::SignalRight, B::Children)>|
-            requires { AreShares N.sites shared.now.sites.items × IsAtWork N.Asked B.Board shared.now.board slot.now.worker slot.now.hand }
-            ensures { IsDone N.Asked B.Board shared.entry.now.board slot.exit.now.worker slot.exit.now.hand }
-        { work_on(rt, shared, gate, slot) },
-    );
+    ghost ready = { IsSlotAtWork M.Engine N.Asked B.Board };
+
+    ghost done = { IsSlotDone M.Engine N.Asked B.Board };
+
+    fn work_on<R: Wait>(&mut self, rt: &R, shared: &Shared<B>, gate: &G) {
+        let hand = mem::replace(&mut self.hand, Hand::Empty);
+        self.hand = work(rt, shared, gate, &mut self.worker, hand);
+    }
 }

@@ -1,4 +1,5 @@
 pub mod LineLemmas
+pub mod AloneRuns
 pub mod RunLemmas
 pub mod RunLinesExamples
 pub mod SolvingExamples

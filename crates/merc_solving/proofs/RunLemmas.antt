@@ -10,9 +10,10 @@ use Rattle.merc_base.specs.Outside.{SinkState}
 use Rattle.merc_meaning.specs.Trace.{Env, Run, RunEnd, RunDone, RunRaised, LimitPassed, Ends, Answer}
 use Rattle.merc_machine.specs.declared.machine.Machine.{Machine}
 use Rattle.merc_machine.specs.declared.running.Stop.{Stop}
-use Rattle.merc_machine.specs.declared.running.Stop.TheVariants.{Answer as AnswerStop, Ended, Raised, LimitPassed as LimitStop, SliceOver, NoMemory as NoMemoryStop}
-use Rattle.merc_machine.specs.Running.{Means, Ran, behind_steps}
+use Rattle.merc_machine.specs.declared.running.Stop.TheVariants.{Answer as AnswerStop, Ended, Raised, LimitPassed as LimitStop, Starved, AtFork, AtWait, AtSignal, SliceOver, NoMemory as NoMemoryStop}
+use Rattle.merc_machine.specs.Running.{Means}
 use Rattle.merc_meaning.specs.Counting.{counted}
+use Rattle.merc_course.specs.Course.{whole as whole_course}
 use Rattle.merc_transfer.specs.declared.writing.Cut.{Cut}
 use Rattle.merc_transfer.specs.declared.writing.Cut.TheVariants.{NoMemory}
 use Rattle.merc_transfer.specs.Writing.{PutsAll, PutsFront, Cuts, Writes}
@@ -20,19 +21,20 @@ use Rattle.merc_solving.specs.Runs.{answers_of, answers_told, end_of, is_stopped
 use Rattle.merc_transfer.specs.Statuses.{solved_status, raised_status, limit_status}
 use Rattle.merc_solving.specs.RunLines.{solution_line, end_line, end_status, last_line, run_lines, run_status, stopped_line}
 use Rattle.merc_solving.specs.Solving.{PutsStop, Solves}
+use Rattle.merc_solving.proofs.AloneRuns.{RanAlone, run_behind}
 use Rattle.merc_transfer.proofs.WritingLemmas.{cuts-within, puts_all-none, puts_all-behind, puts_front-all, puts_front-before}
 
 -- ---- runs behind steps
 
-answers-behind : (made : ℕ) (run : Run) → answers_of (behind_steps made run) ≡ answers_of run
+answers-behind : (made : ℕ) (run : Run) → answers_of (run_behind made run) ≡ answers_of run
 answers-behind zero run = refl
 answers-behind (suc made) run = answers-behind made run
 
-end-behind : (made : ℕ) (run : Run) → end_of (behind_steps made run) ≡ end_of run
+end-behind : (made : ℕ) (run : Run) → end_of (run_behind made run) ≡ end_of run
 end-behind zero run = refl
 end-behind (suc made) run = end-behind made run
 
-steps-behind : (made : ℕ) (run : Run) → steps_of (behind_steps made run) ≡ made + steps_of run
+steps-behind : (made : ℕ) (run : Run) → steps_of (run_behind made run) ≡ made + steps_of run
 steps-behind zero run = omega arith
 steps-behind (suc made) run = let more = steps-behind made run in omega (arith, more)
 
@@ -118,7 +120,7 @@ pub not_enough : (most : Option ℕ) (count : ℕ) → false ≡ option_eq nat_e
 not_enough None count is same = cc
 not_enough (Some most) count is same = other_number most count is (same_Some _ _ same)
 
-told-behind : (bound : Option ℕ) (made : ℕ) (run : Run) → answers_told bound (behind_steps made run) ≡ answers_told bound run
+told-behind : (bound : Option ℕ) (made : ℕ) (run : Run) → answers_told bound (run_behind made run) ≡ answers_told bound run
 told-behind None made run = answers-behind made run
 told-behind (Some more) made run = ap (λ (all : List Env). take more all) (answers-behind made run)
 
@@ -135,7 +137,7 @@ told-ended (Some (suc more)) end = refl
 told-none : (run : Run) → answers_told (Some 0) run ≡ []
 told-none run = refl
 
-stopped-behind : (bound : Option ℕ) (made : ℕ) (run : Run) → is_stopped bound (behind_steps made run) ≡ is_stopped bound run
+stopped-behind : (bound : Option ℕ) (made : ℕ) (run : Run) → is_stopped bound (run_behind made run) ≡ is_stopped bound run
 stopped-behind None made run = refl
 stopped-behind (Some more) made run = ap (λ (all : List Env). nat_le more (length all)) (answers-behind made run)
 
@@ -165,11 +167,11 @@ stopped-ended (Some (suc more)) end wanted = none-within more
 none-stopped : (run : Run) → is_stopped (Some 0) run ≡ true
 none-stopped run = nought-within (length (answers_of run))
 
-before-behind : (more made : ℕ) (run : Run) → steps_before (suc more) (behind_steps made run) ≡ made + steps_before (suc more) run
+before-behind : (more made : ℕ) (run : Run) → steps_before (suc more) (run_behind made run) ≡ made + steps_before (suc more) run
 before-behind more zero run = omega arith
 before-behind more (suc made) run = let rest = before-behind more made run in omega (arith, rest)
 
-made-behind : (bound : Option ℕ) (made : ℕ) (run : Run) → IsOpen bound → steps_made bound (behind_steps made run) ≡ made + steps_made bound run
+made-behind : (bound : Option ℕ) (made : ℕ) (run : Run) → IsOpen bound → steps_made bound (run_behind made run) ≡ made + steps_made bound run
 made-behind None made run wanted = steps-behind made run
 made-behind (Some zero) made run wanted = absurd wanted
 made-behind (Some (suc more)) made run wanted = before-behind more made run
@@ -188,7 +190,7 @@ made-answered (Some zero) values rest wanted = absurd wanted
 made-answered (Some (suc more)) values rest wanted = refl
 
 -- steps that are counted already, and those that are left behind them
-counted-behind : (bound : Option ℕ) (number number' made : ℕ) (before rest : Run) → IsOpen bound → before ≡ behind_steps made rest → number' ≡ counted number made
+counted-behind : (bound : Option ℕ) (number number' made : ℕ) (before rest : Run) → IsOpen bound → before ≡ run_behind made rest → number' ≡ counted number made
     → counted number' (steps_made bound rest) ≡ counted number (steps_made bound before)
 counted-behind bound number number' made before rest wanted is counts =
     ap (λ (n : ℕ). counted n (steps_made bound rest)) counts ∙ counted-more number made (steps_made bound rest)
@@ -208,7 +210,7 @@ pub record Progress (names : List (List ℕ)) (variables : List ℕ) (most : Opt
   pub done : List Env
   pub rest : Run
   pub bound : Option ℕ
-  pub means : Means machine rest
+  pub means : Means machine (whole_course rest)
   pub count_is : count ≡ length done
   pub left : IsLeft most count bound
   pub answers : done ++ answers_of rest ≡ answers_of asked
@@ -219,7 +221,7 @@ pub record Progress (names : List (List ℕ)) (variables : List ℕ) (most : Opt
   pub puts : PutsAll (map (solution_line names variables) done) old now
 
 -- at the beginning
-pub progress-begins : (names : List (List ℕ)) (variables : List ℕ) (most : Option ℕ) (asked : Run) (machine : Machine) (held : SinkState) (begun : ℕ) → Means machine asked
+pub progress-begins : (names : List (List ℕ)) (variables : List ℕ) (most : Option ℕ) (asked : Run) (machine : Machine) (held : SinkState) (begun : ℕ) → Means machine (whole_course asked)
     → Progress names variables most asked machine held held begun begun 0
 progress-begins names variables most asked machine held begun means = record {
   done = [];
@@ -314,7 +316,7 @@ module _ (names : List (List ℕ)) (variables : List ℕ) (most : Option ℕ) (a
     wanted = left-open most so_far.bound count so_far.left more
 
     -- Steps were made, and no answer came.
-    pub progress-moved : (machine' : Machine) (rest : Run) (made ticks' : ℕ) → so_far.rest ≡ behind_steps made rest → Means machine' rest → ticks' ≡ counted ticks made
+    pub progress-moved : (machine' : Machine) (rest : Run) (made ticks' : ℕ) → so_far.rest ≡ run_behind made rest → Means machine' (whole_course rest) → ticks' ≡ counted ticks made
         → Progress names variables most asked machine' old now begun ticks' count
     progress-moved machine' rest made ticks' is means counts = record {
       done = so_far.done;
@@ -332,7 +334,7 @@ module _ (names : List (List ℕ)) (variables : List ℕ) (most : Option ℕ) (a
     }
 
     -- An answer came.
-    module _ (machine' : Machine) (values : Env) (rest : Run) (made ticks' : ℕ) (is : so_far.rest ≡ behind_steps made (Answer values rest)) (means : Means machine' rest)
+    module _ (machine' : Machine) (values : Env) (rest : Run) (made ticks' : ℕ) (is : so_far.rest ≡ run_behind made (Answer values rest)) (means : Means machine' (whole_course rest))
         (counts : ticks' ≡ counted ticks made) where
       abbrev line : List ℕ
       line = solution_line names variables values
@@ -382,7 +384,7 @@ module _ (names : List (List ℕ)) (variables : List ℕ) (most : Option ℕ) (a
       }
 
     -- The run ended.
-    module _ (end : RunEnd) (made ticks' : ℕ) (is : so_far.rest ≡ behind_steps made (Ends end)) (counts : ticks' ≡ counted ticks made) where
+    module _ (end : RunEnd) (made ticks' : ℕ) (is : so_far.rest ≡ run_behind made (Ends end)) (counts : ticks' ≡ counted ticks made) where
       end_is : end_of asked ≡ end
       end_is = sym so_far.end ∙ ap (λ (run : Run). end_of run) is ∙ end-behind made (Ends end)
 
@@ -429,11 +431,15 @@ module _ (names : List (List ℕ)) (variables : List ℕ) (most : Option ℕ) (a
         (subst (λ (held : SinkState). Cuts whole old held NoMemory) (sym puts.1) progress-cut)
 
     -- The machine stopped, and the line of its stop was put behind the others.
-    pub solves-stop : (stop : Stop) (machine' : Machine) (slice ticks' : ℕ) (new : SinkState) (result : Result ℕ Cut) → Ran stop so_far.rest machine' ticks ticks' slice
+    pub solves-stop : (stop : Stop) (machine' : Machine) (slice ticks' : ℕ) (new : SinkState) (result : Result ℕ Cut) → RanAlone stop so_far.rest machine' ticks ticks' slice
         → PutsStop names count stop now new result → Solves names variables most asked old new begun ticks' result
-    solves-stop Ended machine' slice ticks' new result ran puts = solves-end RunDone ran.0 ticks' ran.2.whole ran.2.counts _ _ new result refl refl puts.0 puts.1
-    solves-stop (Raised text) machine' slice ticks' new result ran puts = solves-end (RunRaised text) ran.0 ticks' ran.2.whole ran.2.counts _ _ new result refl refl puts.0 puts.1
-    solves-stop LimitStop machine' slice ticks' new result ran puts = solves-end LimitPassed ran.0 ticks' ran.2.whole ran.2.counts _ _ new result refl refl puts.0 puts.1
+    solves-stop Ended machine' slice ticks' new result ran puts = solves-end RunDone ran.0 ticks' ran.1 ran.2 _ _ new result refl refl puts.0 puts.1
+    solves-stop (Raised text) machine' slice ticks' new result ran puts = solves-end (RunRaised text) ran.0 ticks' ran.1 ran.2 _ _ new result refl refl puts.0 puts.1
+    solves-stop LimitStop machine' slice ticks' new result ran puts = solves-end LimitPassed ran.0 ticks' ran.1 ran.2 _ _ new result refl refl puts.0 puts.1
+    solves-stop Starved machine' slice ticks' new result ran puts = absurd ran
+    solves-stop (AtFork site) machine' slice ticks' new result ran puts = absurd ran
+    solves-stop (AtWait variable) machine' slice ticks' new result ran puts = absurd ran
+    solves-stop (AtSignal variable) machine' slice ticks' new result ran puts = absurd ran
     solves-stop AnswerStop machine' slice ticks' new result ran puts = not_put ticks' new result puts
     solves-stop SliceOver machine' slice ticks' new result ran puts = not_put ticks' new result puts
     solves-stop NoMemoryStop machine' slice ticks' new result ran puts = not_put ticks' new result puts

@@ -4,14 +4,14 @@ use Rattle.std.proofs.Common.{arith, ap}
 use Rattle.std.specs.Fmt.{digits}
 use Rattle.merc_base.specs.Outside.{SinkState}
 use Rattle.merc_meaning.specs.Trace.{RunDone}
-use Rattle.merc_machine.specs.declared.running.Stop.TheVariants.{Answer, Ended, Raised, LimitPassed, SliceOver, NoMemory as NoMemoryStop}
+use Rattle.merc_machine.specs.declared.running.Stop.TheVariants.{Answer, Ended, Raised, LimitPassed, Starved, AtWait, SliceOver, NoMemory as NoMemoryStop}
 use Rattle.merc_transfer.specs.Statuses.{solved_status, unsolved_status, raised_status, limit_status}
 use Rattle.merc_transfer.specs.Writing.{PutsFront}
 use Rattle.merc_transfer.specs.declared.writing.Cut.{Cut}
 use Rattle.merc_transfer.specs.declared.writing.Cut.TheVariants.{Unwritten, NoMemory}
 use Rattle.merc_transfer.proofs.WritingLemmas.{puts_front-all, puts_front-before}
 use Rattle.merc_transfer.proofs.WritingExamples.{puts_whole, told}
-use Rattle.merc_solving.specs.Solving.{Solves, PutsEnd, PutsStop}
+use Rattle.merc_solving.specs.Solving.{Solves, StopsAlone, PutsEnd, PutsStop}
 use Rattle.merc_solving.proofs.RunLinesExamples.{names, y, no_row, two_answers}
 
 -- the lines are written, each as one piece, there is no further fault, and both steps are counted
@@ -61,6 +61,13 @@ PutsEnd-solved = (puts_whole (codes "solutions 2\n" ∷ []) (told [] [] 3) (omeg
 pub PutsEnd-unsolved : (new : SinkState) → PutsEnd names 0 RunDone (told [] [] 3) new (Ok solved_status) → ⊥
 PutsEnd-unsolved new ends = let same : ◌≡◌ {A = ℕ} 0 1 = ends.1 in omega arith
 
+-- at its end a machine meets nobody, and where it waits for a value it does
+pub StopsAlone-ended : StopsAlone Ended
+StopsAlone-ended = tt
+
+pub StopsAlone-waits : (variable : ℕ) → StopsAlone (AtWait variable) → ⊥
+StopsAlone-waits variable alone = alone
+
 -- each stop has its line and its status, and where the run could go on nothing is written
 
 pub PutsStop-ended : PutsStop names 0 Ended (told [] [] 3) (told (codes "solutions 0\n") (codes "solutions 0\n" ∷ []) 3) (Ok unsolved_status)
@@ -81,3 +88,6 @@ PutsStop-goes_on sink stops = let wrong : ◌≡◌ {A = Result ℕ Cut} (Ok sol
 
 pub PutsStop-no_memory : PutsStop names 2 NoMemoryStop (told [] [] 3) (told (codes "solutions 2\n") (codes "solutions 2\n" ∷ []) 3) (Err NoMemory) → ⊥
 PutsStop-no_memory stops = let wrong : ◌≡◌ {A = Option (List ℕ)} (Some (codes "solutions 2\n")) (Some []) = ap (λ (s : SinkState). s.written) stops.1 in cc
+
+pub PutsStop-starved : (old new : SinkState) (result : Result ℕ Cut) → PutsStop names 2 Starved old new result → ⊥
+PutsStop-starved old new result stops = stops

@@ -4,7 +4,7 @@ use Rattle.merc_base.specs.Outside.{SinkState}
 use Rattle.merc_meaning.specs.Trace.{Run, RunEnd, RunDone, RunRaised, LimitPassed as PastLimit}
 use Rattle.merc_meaning.specs.Counting.{counted}
 use Rattle.merc_machine.specs.declared.running.Stop.{Stop}
-use Rattle.merc_machine.specs.declared.running.Stop.TheVariants.{Answer, Ended, Raised, LimitPassed, SliceOver, NoMemory as NoMemoryStop}
+use Rattle.merc_machine.specs.declared.running.Stop.TheVariants.{Answer, Ended, Raised, LimitPassed, Starved, AtFork, AtWait, AtSignal, SliceOver, NoMemory as NoMemoryStop}
 use Rattle.merc_transfer.specs.declared.writing.Cut.{Cut}
 use Rattle.merc_transfer.specs.declared.writing.Cut.TheVariants.{NoMemory}
 use Rattle.merc_solving.specs.Runs.{steps_made}
@@ -21,11 +21,28 @@ Solves names variables most asked old new ticks ticks' (Err cut) = Cuts (run_lin
 abbrev pub PutsEnd : List (List ℕ) → ℕ → RunEnd → SinkState → SinkState → Result ℕ Cut → Type 0
 PutsEnd names count end old new result = Writes (end_line names count end ∷ []) old new result × IfOk result (λ status. status ≡ end_status count end)
 
--- The same of the end at which a machine stopped, where it did; else nothing was written, as where memory is refused.
+-- A machine that meets nobody comes to such a stop.
+abbrev pub StopsAlone : Stop → Type 0
+StopsAlone Answer = Unit {0}
+StopsAlone Ended = Unit {0}
+StopsAlone (Raised text) = Unit {0}
+StopsAlone LimitPassed = Unit {0}
+StopsAlone Starved = ⊥
+StopsAlone (AtFork site) = ⊥
+StopsAlone (AtWait variable) = ⊥
+StopsAlone (AtSignal variable) = ⊥
+StopsAlone SliceOver = Unit {0}
+StopsAlone NoMemoryStop = Unit {0}
+
+-- The same of the end at which a machine stopped, where it did; else nothing was written, as where memory is refused. It meets nobody.
 abbrev pub PutsStop : List (List ℕ) → ℕ → Stop → SinkState → SinkState → Result ℕ Cut → Type 0
 PutsStop names count Ended old new result = PutsEnd names count RunDone old new result
 PutsStop names count (Raised text) old new result = PutsEnd names count (RunRaised text) old new result
 PutsStop names count LimitPassed old new result = PutsEnd names count PastLimit old new result
 PutsStop names count Answer old new result = (result ≡ Err NoMemory) × (new ≡ old)
+PutsStop names count Starved old new result = ⊥
+PutsStop names count (AtFork site) old new result = ⊥
+PutsStop names count (AtWait variable) old new result = ⊥
+PutsStop names count (AtSignal variable) old new result = ⊥
 PutsStop names count SliceOver old new result = (result ≡ Err NoMemory) × (new ≡ old)
 PutsStop names count NoMemoryStop old new result = (result ≡ Err NoMemory) × (new ≡ old)

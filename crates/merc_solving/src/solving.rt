@@ -1,11 +1,12 @@
 //! Runs of goals, whose lines are written as the answers come.
 ghost use Rattle.std.specs.Prelude.{◌≡◌, ◌<◌, ℕ, List, [], ◌∷◌, suc, IfOk};
 ghost use Rattle.merc_meaning.specs.Trace.{Env, Run, RunDone};
+ghost use Rattle.merc_course.specs.Course.{whole};
 ghost use Rattle.merc_machine.specs.Running.{HasAnswered, Means};
 ghost use Rattle.merc_transfer.specs.Writing.{Writes};
 ghost use Rattle.merc_solving.specs.Ready.{Makes};
 ghost use Rattle.merc_solving.specs.RunLines.{end_status, solution_line};
-ghost use Rattle.merc_solving.specs.Solving.{PutsStop, Solves};
+ghost use Rattle.merc_solving.specs.Solving.{PutsStop, Solves, StopsAlone};
 
 use crate::lines::{exception_line, solution_line, solutions_line, step_limit_line, stopped_line};
 use merc_base::{Name, Names, NoMemory, Sequence, Sink, Text};
@@ -52,7 +53,7 @@ pub fn run<K: Sink>(
     put_run(alloc, ready, &mut machine, sink, ticks)
 }
 
-// Writes the lines of the run that a machine has before it, with those names and up to that bound.
+// Writes the lines of the run that a machine has before it, with those names and up to that bound. It meets nobody.
 fn put_run<K: Sink>(
     alloc: Global,
     ready: &Ready,
@@ -61,8 +62,8 @@ fn put_run<K: Sink>(
     ticks: &mut Ticks,
 ) -> Result<u8, Cut>
     requires sink { (K.sink_state sink.old).faults < 18446744073709551615 }
-    requires means { (asked : Run) × Means machine.old asked }
-    ensures { (asked : Run) → Means machine.old asked → Solves ready.now.names ready.now.variables ready.now.most asked (K.sink_state sink.old) (K.sink_state sink.new) ticks.old ticks.new result }
+    requires means { (asked : Run) × Means machine.old (whole asked) }
+    ensures { (asked : Run) → Means machine.old (whole asked) → Solves ready.now.names ready.now.variables ready.now.most asked (K.sink_state sink.old) (K.sink_state sink.new) ticks.old ticks.new result }
 {
     let mut count = 0;
     for _ in 0..u64::MAX {
@@ -96,7 +97,7 @@ fn put_answer<K: Sink>(
     put_line(sink, &line)
 }
 
-// Writes the line of a stop behind which the run does not go on, where it has so many answers.
+// Writes the line of a stop behind which the run does not go on, where it has so many answers and meets nobody.
 fn put_stop<K: Sink>(
     alloc: Global,
     names: &Names,
@@ -104,7 +105,8 @@ fn put_stop<K: Sink>(
     count: u64,
     sink: &mut K,
 ) -> Result<u8, Cut>
-    requires { (K.sink_state sink.old).faults < 18446744073709551615 }
+    requires sink { (K.sink_state sink.old).faults < 18446744073709551615 }
+    requires alone { StopsAlone stop }
     ensures { PutsStop names.now count stop (K.sink_state sink.old) (K.sink_state sink.new) result }
 {
     match stop {
@@ -112,6 +114,7 @@ fn put_stop<K: Sink>(
         Stop::Raised(text) => put_end(sink, statuses::RAISED, exception_line(alloc, names, text)),
         Stop::LimitPassed => put_end(sink, statuses::LIMIT_PASSED, step_limit_line(alloc)),
         Stop::Answer | Stop::SliceOver | Stop::NoMemory => Err(Cut::NoMemory),
+        Stop::Starved | Stop::AtFork(_) | Stop::AtWait(_) | Stop::AtSignal(_) => unreachable!(),
     }
 }
 

@@ -14,6 +14,7 @@ use Rattle.merc_graded_tree.specs.Nodes.{Node}
 use Rattle.merc_meaning.specs.Programs.{program_with}
 use Rattle.merc_meaning.specs.Runs.{run}
 use Rattle.merc_meaning.specs.Shown.{shown}
+use Rattle.merc_course.specs.Alone.{MeetsNobody, ProgramMeetsNobody}
 use Rattle.merc_check.specs.Accepted.{AreGraded, IsGradedGoal, query_answers, query_names}
 use Rattle.merc_terms.specs.Items.{IsRefusal}
 use Rattle.merc_check.specs.Checked.{IsAccepted, IsGoal, Refuses}
@@ -39,6 +40,7 @@ use Rattle.merc_solving.specs.declared.solving.Ready.{Ready}
 use Rattle.merc_solving.specs.Ready.{IsReady}
 use Rattle.merc_top.specs.Due.{Finds, IsFaultDue, IsRequestFound, IsSolveFound}
 use Rattle.merc_top.proofs.Requests.{solve-no_check}
+use Rattle.merc_top.proofs.AloneModules.{goal_alone, module_alone, program_alone}
 use Rattle.merc_top.proofs.OutputLaws.{module-distinct}
 
 -- the status of a text that is due
@@ -197,8 +199,11 @@ module _ (text goal : List ℕ) (file_names names : List (List ℕ)) (items : Li
   pub one-goal : length goals ≡ 1
   one-goal = ap (λ (some : List Node). length some) one_tree.1
 
+  graded_alone : IsGradedGoal names found term (one_tree.0 ∷ [])
+  graded_alone = subst (λ (some : List Node). IsGradedGoal names found term some) one_tree.1 goal_trees
+
   pub run-found : (name : List ℕ) (steps : ℕ) (most : Option ℕ) (variables answers : List ℕ) (ready : Ready) → AreGraded file_names found trees → variables ≡ query_names names term → answers ≡ query_answers names found term
-      → ((tree : Node) → goals ≡ tree ∷ [] → IsReady names variables most (shown answers (run (program_with found.preds trees) tree steps)) ready)
+      → ((tree : Node) → goals ≡ tree ∷ [] → ProgramMeetsNobody (program_with found.preds trees) → MeetsNobody tree → IsReady names variables most (shown answers (run (program_with found.preds trees) tree steps)) ready)
       → IsSolveFound name text goal steps most (Runs ready)
   run-found name steps most variables answers ready graded variables_are answers_are is_ready = (
     names,
@@ -214,11 +219,12 @@ module _ (text goal : List ℕ) (file_names names : List (List ℕ)) (items : Li
       module_is = module_is;
       module_trees = graded;
       goal_is = goal_is;
-      goal_tree = subst (λ (some : List Node). IsGradedGoal names found term some) one_tree.1 goal_trees;
+      goal_tree = graded_alone;
       variables_are = variables_are;
       run_is = ap (λ (some : List ℕ). shown some (run (program_with found.preds trees) one_tree.0 steps)) answers_are;
     },
-    is_ready one_tree.0 one_tree.1,
+    is_ready one_tree.0 one_tree.1 (program_alone found.preds trees (module_alone text file_names items found module_is trees graded))
+        (goal_alone text file_names items found module_is goal names term one_tree.0 goal_is graded_alone),
   )
 
 -- What is wrong with the file, or with the goal, is said by a status that no run has.

@@ -1,4 +1,6 @@
 pub mod CheckingLemmas
+pub mod AloneTrees
+pub mod AloneModules
 pub mod ReadyLemmas
 pub mod Dues
 pub mod Requests

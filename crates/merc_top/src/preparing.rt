@@ -6,6 +6,8 @@ ghost use Rattle.merc_meaning.specs.Runs.{run};
 ghost use Rattle.merc_code.specs.Steps.{Code, Codes};
 ghost use Rattle.merc_code.specs.Meaning.{start};
 ghost use Rattle.merc_meaning.specs.Shown.{shown};
+ghost use Rattle.merc_course.specs.Course.{whole};
+ghost use Rattle.merc_course.specs.Alone.{MeetsNobody, ProgramMeetsNobody};
 ghost use Rattle.merc_last_calls.specs.LeanMeaning.{YieldsLean};
 ghost use Rattle.merc_load.specs.Loaded.{IsProgram};
 ghost use Rattle.merc_solving.specs.Ready.{IsReady};
@@ -20,6 +22,7 @@ use merc_solving::Ready;
 use std::alloc::Global;
 
 /// Makes ready the run of an accepted goal over an accepted module, in at most so many steps and with so many answers at most.
+/// They meet nobody.
 ///
 /// # Errors
 ///
@@ -33,7 +36,7 @@ pub fn prepare(
     most: Option<u64>,
 ) -> Result<Ready, NoMemory>
     requires { length query.trees ≡ 1 }
-    ensures { IfOk result (λ ready. (tree : Node) → query.trees ≡ tree ∷ [] → IsReady names query.names most (shown query.answers (run (program_with checked.now.module.preds checked.now.trees) tree steps)) ready) }
+    ensures { IfOk result (λ ready. (tree : Node) → query.trees ≡ tree ∷ [] → ProgramMeetsNobody (program_with checked.now.module.preds checked.now.trees) → MeetsNobody tree → IsReady names query.names most (shown query.answers (run (program_with checked.now.module.preds checked.now.trees) tree steps)) ready) }
 {
     let Query {
         goal,
@@ -60,7 +63,8 @@ pub fn prepare(
     }
 }
 
-// The code of a module and of a goal whose tree is alone in its list, and whose answers give these variables values.
+// The code of a module and of a goal whose tree is alone in its list, and whose answers give these variables values. They
+// meet nobody.
 fn program_of(
     alloc: Global,
     checked: &Checked,
@@ -68,7 +72,7 @@ fn program_of(
     answers: Vars,
 ) -> Result<Loaded, NoMemory>
     requires { length trees.now ≡ 1 }
-    ensures { IfOk result (λ program. (tree : Node) → trees.now ≡ tree ∷ [] → (steps : ℕ) → (codes : Codes) × (query : Code) × IsProgram program codes query × YieldsLean codes (start query steps) (shown answers (run (program_with checked.now.module.preds checked.now.trees) tree steps))) }
+    ensures { IfOk result (λ program. (tree : Node) → trees.now ≡ tree ∷ [] → ProgramMeetsNobody (program_with checked.now.module.preds checked.now.trees) → MeetsNobody tree → (steps : ℕ) → (codes : Codes) × (query : Code) × IsProgram program codes query × YieldsLean codes (start query steps) (whole (shown answers (run (program_with checked.now.module.preds checked.now.trees) tree steps)))) }
 {
     let goal = match trees.get(0) {
         Some(goal) => goal,

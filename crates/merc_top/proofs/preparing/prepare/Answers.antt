@@ -3,8 +3,8 @@ use Rattle.std.proofs.Common.{refl}
 use Rattle.merc_top.proofs.preparing.prepare.Goals as goal
 
 pub returns-in-Ok : goal.returns-in-Ok
-returns-in-Ok c = λ tree one.
-    let made = c.in-Ok.ensures tree one c.args.steps in
+returns-in-Ok c = λ tree one program_alone alone.
+    let made = c.in-Ok.ensures tree one program_alone alone c.args.steps in
     record {
       names_are = refl;
       variables_are = refl;
