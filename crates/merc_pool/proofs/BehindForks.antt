@@ -1,5 +1,5 @@
 -- Behind a fork a machine goes on through its course, or has stopped as its conjuncts say.
-use Rattle.std.proofs.Common.{◌≡◌, ◌≢◌, ℕ, zero, suc, ◌+◌, ◌-◌, ◌≤◌, List, [], ◌∷◌, Option, Some, None, refl, ap, sym, ◌∙◌, subst, arith, slice_get}
+use Rattle.std.proofs.Common.{◌≡◌, ℕ, zero, suc, ◌+◌, ◌-◌, ◌≤◌, List, [], Option, Some, refl, ap, sym, ◌∙◌, subst, arith, slice_get}
 use Rattle.merc_value.specs.Value.{Value}
 use Rattle.merc_meaning.specs.Trace.{Run, RunEnd, RunRaised, LimitPassed as PastLimit, Ends as RunEnds}
 use Rattle.merc_script.specs.declared.outcome.Outcome.{Outcome}
@@ -24,7 +24,7 @@ use Rattle.merc_carried.specs.Runs.{behind_steps, IsLeftOf}
 use Rattle.merc_carried.specs.KeepsTo.{KeepsTo, ShowsEnd, goes_on as fork_goes_on, ends_there}
 use Rattle.merc_pool.specs.declared.engine.Engine as Engine
 use Rattle.merc_pool.specs.declared.load.Progress.{Progress}
-use Rattle.merc_pool.specs.Carrying.{made_by, IsPlain, IsCounted, IsOn, IsToldEnd, HasStopped, goes_on, has_stopped, StandsAt}
+use Rattle.merc_pool.specs.Carrying.{made_by, IsPlain, IsCounted, IsOn, HasStopped, goes_on, has_stopped, StandsAt}
 use Rattle.merc_pool.specs.Ending.{IsJoinedFork}
 use Rattle.merc_carried.proofs.Conjuncts.{joined_within, steps_of}
 use Rattle.merc_carried.proofs.Left.{left_steps}
@@ -66,7 +66,7 @@ pub plain-forks : (at : Place) (root : Script) (limit : ℕ) (cells : List Cell)
     → left_of at ≡ Some (ForkThen limit cells moves children rest) → IsPlain root → ⊥
 plain-forks at root limit cells moves children rest rooted named left plain =
     plain-behind at.passed limit cells moves children rest root plain
-      (sym (ap (λ (r : Script). left_in at.passed (script_named [] (Some r))) rooted) ∙ sym (ap (λ name. left_in at.passed (script_named name (Some at.root))) named) ∙ left)
+    (sym (ap (λ (r : Script). left_in at.passed (script_named [] (Some r))) rooted) ∙ sym (ap (λ name. left_in at.passed (script_named name (Some at.root))) named) ∙ left)
 
 -- so many steps are made once conjuncts have joined
 made-more : (left left' steps limit : ℕ) → left ≤ limit → left' + steps ≡ left → limit - left' ≡ (limit - left) + steps
@@ -149,12 +149,12 @@ module _ {M : Type 0} (m : Engine.Ghosts M) (sites : List SiteInfo) (root : Scri
         left = left-there progress rights at outcome joins;
         run = behind;
         keeps = subst (λ (r : Rights). KeepsTo sites (value_in (cells_of root)) r (all_left (m.seen machine)) (made_by (m.seen machine)) behind (f.next (Joined steps)) f.rest) handed
-          (subst (λ (n : ℕ). KeepsTo sites (value_in (cells_of root)) (rights_behind info f.cells f.before) n (made_by (m.seen machine)) behind (f.next (Joined steps)) f.rest) left
+            (subst (λ (n : ℕ). KeepsTo sites (value_in (cells_of root)) (rights_behind info f.cells f.before) n (made_by (m.seen machine)) behind (f.next (Joined steps)) f.rest) left
             (subst (λ (n : ℕ). KeepsTo sites (value_in (cells_of root)) (rights_behind info f.cells f.before) (all_left (m.seen progress.machine) - steps) n behind (f.next (Joined steps)) f.rest) (sym made) keeps));
         means = rejoined.on steps fine f.forked f.next f.on.means;
         counted = counted-behind progress machine f.site.number outcome f.on.counted rejoined;
         tells = λ named. subst (λ (n : ℕ). IsLeftOf whole progress.given n behind) (sym made)
-          (left_steps whole progress.given (made_by (m.seen progress.machine)) steps behind (subst (λ (r : Run). IsLeftOf whole progress.given (made_by (m.seen progress.machine)) r) is (f.on.tells named)));
+            (left_steps whole progress.given (made_by (m.seen progress.machine)) steps behind (subst (λ (r : Run). IsLeftOf whole progress.given (made_by (m.seen progress.machine)) r) is (f.on.tells named)));
       }
 
   -- it has stopped, where they did not
@@ -166,8 +166,7 @@ module _ {M : Type 0} (m : Engine.Ghosts M) (sites : List SiteInfo) (root : Scri
   goes-badly progress rights at NoMemory machine reported end joins rejoined not_fine is shows there = absurd (joins.has_memory refl)
   goes-badly progress rights at (Raise text steps) machine reported end joins rejoined not_fine is shows there =
       let f = joins.fork in
-      let made = made-behind progress machine f.site.number (Raise text steps) f.on.counted rejoined in
-      (
+      let made = made-behind progress machine f.site.number (Raise text steps) f.on.counted rejoined in (
         Raised text,
         record {
           over = rejoined.over (Raised text) refl;
@@ -179,15 +178,14 @@ module _ {M : Type 0} (m : Engine.Ghosts M) (sites : List SiteInfo) (root : Scri
             made = made_by (m.seen machine);
             end = RunRaised text;
             left = subst (λ (n : ℕ). IsLeftOf whole progress.given n (RunEnds (RunRaised text))) (sym made)
-              (left_steps whole progress.given (made_by (m.seen progress.machine)) steps (RunEnds (RunRaised text)) (subst (λ (r : Run). IsLeftOf whole progress.given (made_by (m.seen progress.machine)) r) shows (f.on.tells named)));
+                (left_steps whole progress.given (made_by (m.seen progress.machine)) steps (RunEnds (RunRaised text)) (subst (λ (r : Run). IsLeftOf whole progress.given (made_by (m.seen progress.machine)) r) shows (f.on.tells named)));
             shows = refl;
             plain = λ plain. refl;
           };
         },
       )
   goes-badly progress rights at Limit machine reported end joins rejoined not_fine is shows there =
-      let f = joins.fork in
-      (
+      let f = joins.fork in (
         LimitPassed,
         record {
           over = rejoined.over LimitPassed refl;
@@ -209,15 +207,14 @@ module _ {M : Type 0} (m : Engine.Ghosts M) (sites : List SiteInfo) (root : Scri
       → HasRejoined (m.seen progress.machine) (m.seen machine) joins.fork.site.number outcome → reported ≡ made_by (m.seen machine) → StandsAt m sites root whole (behind_it progress machine reported) rights (place_behind at)
   stands-behind progress rights at outcome machine reported joins rejoined reports =
       let f = joins.fork in
-      let comes = fork-comes sites (value_in (cells_of root)) f.before (all_left (m.seen progress.machine)) (made_by (m.seen progress.machine)) f.on.run f.site.number f.limit f.cells f.moves f.children f.forked f.next f.rest f.on.keeps in
-      (
+      let comes = fork-comes sites (value_in (cells_of root)) f.before (all_left (m.seen progress.machine)) (made_by (m.seen progress.machine)) f.on.run f.site.number f.limit f.cells f.moves f.children f.forked f.next f.rest f.on.keeps in (
         sym reports,
         elim comes [
-          comes_well steps behind info found fine is keeps ↦ 
-            goes_on (f.next (Joined steps)) f.rest (goes-well progress rights at outcome machine reported steps behind info joins rejoined (sym joins.joins ∙ fine) found is keeps)
-        | comes_badly end not_fine is shows there ↦ (
-            let stopped = goes-badly progress rights at outcome machine reported end joins rejoined (λ steps fine. not_fine steps (joins.joins ∙ fine))
-                (is ∙ ap (later (made_by (m.seen progress.machine))) joins.joins) (subst (λ (o : Outcome). ShowsEnd o f.on.run) joins.joins shows) there in
-            has_stopped stopped.0 end stopped.1)
+          | comes_well steps behind info found fine is keeps ↦
+              goes_on (f.next (Joined steps)) f.rest (goes-well progress rights at outcome machine reported steps behind info joins rejoined (sym joins.joins ∙ fine) found is keeps)
+          | comes_badly end not_fine is shows there ↦ (
+              let stopped = goes-badly progress rights at outcome machine reported end joins rejoined (λ steps fine. not_fine steps (joins.joins ∙ fine))
+              (is ∙ ap (later (made_by (m.seen progress.machine))) joins.joins) (subst (λ (o : Outcome). ShowsEnd o f.on.run) joins.joins shows) there in
+              has_stopped stopped.0 end stopped.1)
         ],
       )

@@ -1,5 +1,5 @@
 -- How branches end, and how their parents go on.
-use Rattle.std.proofs.Common.{◌≡◌, ◌≢◌, ℕ, zero, suc, ◌+◌, ◌⊎◌, inl, inr, Bool, true, false, List, [], Option, Some, None, refl, ap, sym, ◌∙◌, subst, arith}
+use Rattle.std.proofs.Common.{◌≡◌, ◌≢◌, ℕ, suc, ◌⊎◌, inl, inr, true, false, List, [], Some, refl, sym, ◌∙◌, subst, arith}
 use Rattle.merc_meaning.specs.Trace.{Run}
 use Rattle.merc_script.specs.declared.outcome.Outcome.{Outcome}
 use Rattle.merc_script.specs.declared.outcome.Outcome.TheVariants.{Ok as Fine, Raise, Limit, Starved, NoMemory}
@@ -8,23 +8,22 @@ use Rattle.merc_script.specs.Script.{Script, ForkThen, Children, Cell, ends}
 use Rattle.merc_script.specs.Joining.{joined}
 use Rattle.merc_script.specs.Places.{Place, left_of}
 use Rattle.merc_rights.specs.declared.sites.SiteInfo.{SiteInfo}
-use Rattle.merc_machine.specs.declared.machine.Machine.{Machine}
 use Rattle.merc_machine.specs.declared.running.Stop.{Stop}
 use Rattle.merc_machine.specs.declared.running.Stop.TheVariants.{Answer, Ended, Raised, LimitPassed, Starved as StarvedStop, AtFork, AtWait, AtSignal, SliceOver, NoMemory as NoMemoryStop}
 use Rattle.merc_board.specs.declared.board.Board as Board
 use Rattle.merc_board.specs.declared.branch.Branch.{Branch}
 use Rattle.merc_board.specs.Rights.{Rights}
-use Rattle.merc_board.specs.Going.{next, Ticked}
-use Rattle.merc_board.specs.Boarding.{MayEnd, at_end, lost, lost_at, starves, IsJoined}
+use Rattle.merc_board.specs.Going.{next}
+use Rattle.merc_board.specs.Boarding.{at_end, lost, lost_at, starves, IsJoined}
 use Rattle.merc_carried.proofs.Places.{not_ticked}
 use Rattle.merc_pool.specs.declared.engine.Engine as Engine
 use Rattle.merc_pool.specs.declared.load.Asked as Asked
 use Rattle.merc_pool.specs.declared.load.Carried.{Carried}
 use Rattle.merc_pool.specs.declared.load.Progress.{Progress}
-use Rattle.merc_pool.specs.Carrying.{made_by, IsCounted, IsReported, Stands, goes_on, has_stopped, ForkedAt}
+use Rattle.merc_pool.specs.Carrying.{IsCounted, Stands, goes_on, has_stopped}
 use Rattle.merc_pool.specs.Running.{StoppedAt}
 use Rattle.merc_pool.specs.Ending.{IsOutcomeOf, IsJoinedFork}
-use Rattle.merc_pool.specs.Hands.{CanEnd, CameTo, HasComeTo, HasPassed, IsAtAnswer, IsLive, IsParent, IsRooted, RootCameTo}
+use Rattle.merc_pool.specs.Hands.{CanEnd, CameTo, HasComeTo, IsAtAnswer, IsParent, RootCameTo}
 
 module _ {M : Type 0} (m : Engine.Ghosts M) (sites : List SiteInfo) (root : Script) (whole : Run) where
   stands-counted : (progress : Progress M) (rights : Rights) (at : Place) → Stands m sites root whole progress rights at → IsCounted (m.seen progress.machine)
@@ -104,8 +103,7 @@ module _ {M N B H S W G C : Type 0} (m : Engine.Ghosts M) (n : Asked.Ghosts N) (
   pub root-came : (branch : Branch (Carried M N) H) (stop : Stop) → HasComeTo m n b board seat branch stop → ((at : Place) → b.own board seat branch.hold at → at.name ≡ []) → RootCameTo m n b board seat branch stop
   root-came branch stop come named =
       let left = stopped-left m n.sites n.root n.run branch.load.progress (b.rights branch.hold) come.0 stop come.3 in
-      let reported = come.2 in
-      (
+      let reported = come.2 in (
         come.0,
         named come.0 come.1,
         record { from = come.0; passed = 0; owned = come.1; ticked = not_ticked come.0 left.0 left.1; reported = omega (arith, reported) },
@@ -147,28 +145,27 @@ module _ {M N B H S W G C : Type 0} (m : Engine.Ghosts M) (n : Asked.Ghosts N) (
   -- Behind the call that says what its conjuncts came to, a parent ends for want of memory, or as one that starved.
   pub parent-ends : (before : S) (parent : Branch (Carried M N) H) (hold : H) (outcome : Outcome) → (is : IsParent m n b board before parent)
       → ((at : Place) (limit : ℕ) (cells : List Cell) (moves : List Move) (children : Children) (rest : Script) → b.holds board before parent.hold at → left_of at ≡ Some (ForkThen limit cells moves children rest)
-          → IsJoined (b.own board seat hold) (b.runs board seat hold) (b.starved board seat hold) at limit children outcome)
+      → IsJoined (b.own board seat hold) (b.runs board seat hold) (b.starved board seat hold) at limit children outcome)
       → (outcome ≡ NoMemory) ⊎ (outcome ≡ Starved) → CanEnd m n b board seat (record parent { hold = hold }) outcome
   parent-ends before parent hold outcome is came (inl lost_it) =
       let f = is.2 in
       let there = came is.0 f.limit f.cells f.moves f.children f.rest is.1 f.on.left in
       subst (λ (o : Outcome). CanEnd m n b board seat (record parent { hold = hold }) o) (sym lost_it)
-        (lost (subst (λ (o : Outcome). IsJoined (b.own board seat hold) (b.runs board seat hold) (b.starved board seat hold) is.0 f.limit f.children o) lost_it there))
+      (lost (subst (λ (o : Outcome). IsJoined (b.own board seat hold) (b.runs board seat hold) (b.starved board seat hold) is.0 f.limit f.children o) lost_it there))
   parent-ends before parent hold outcome is came (inr starves_now) =
       let f = is.2 in
       let there = came is.0 f.limit f.cells f.moves f.children f.rest is.1 f.on.left in
       subst (λ (o : Outcome). CanEnd m n b board seat (record parent { hold = hold }) o) (sym starves_now)
-        (starves (subst (λ (o : Outcome). IsJoined (b.own board seat hold) (b.runs board seat hold) (b.starved board seat hold) is.0 f.limit f.children o) starves_now there))
+      (starves (subst (λ (o : Outcome). IsJoined (b.own board seat hold) (b.runs board seat hold) (b.starved board seat hold) is.0 f.limit f.children o) starves_now there))
 
   -- .. or goes on that says what its conjuncts came to
   pub parent-joins : (before : S) (parent : Branch (Carried M N) H) (hold : H) (outcome : Outcome) → (is : IsParent m n b board before parent) → b.rights hold ≡ b.rights parent.hold
       → ((at : Place) (limit : ℕ) (cells : List Cell) (moves : List Move) (children : Children) (rest : Script) → b.holds board before parent.hold at → left_of at ≡ Some (ForkThen limit cells moves children rest)
-          → IsJoined (b.own board seat hold) (b.runs board seat hold) (b.starved board seat hold) at limit children outcome)
+      → IsJoined (b.own board seat hold) (b.runs board seat hold) (b.starved board seat hold) at limit children outcome)
       → outcome ≢ NoMemory → outcome ≢ Starved → IsJoinedFork m n.sites n.root n.run parent.load.progress (b.rights hold) is.0 outcome × b.own board seat hold (next is.0)
   parent-joins before parent hold outcome is same came kept fed =
       let f = is.2 in
-      let joins = joined-truly (b.own board seat hold) (b.runs board seat hold) (b.starved board seat hold) is.0 f.limit f.children outcome kept fed (came is.0 f.limit f.cells f.moves f.children f.rest is.1 f.on.left) in
-      (
+      let joins = joined-truly (b.own board seat hold) (b.runs board seat hold) (b.starved board seat hold) is.0 f.limit f.children outcome kept fed (came is.0 f.limit f.cells f.moves f.children f.rest is.1 f.on.left) in (
         record {
           fork = record {
             site = f.site;

@@ -1,6 +1,5 @@
 -- What is made ready for a board, site after site.
-use Rattle.std.proofs.Common.{◌≡◌, ℕ, zero, suc, ◌+◌, ◌<◌, ◌≤◌, ◌⊎◌, inl, inr, List, [], ◌∷◌, ◌++◌, Some, None, refl, ap, sym, ◌∙◌, subst, arith, length, slice_get}
-use Rattle.std.specs.Prelude.{Option}
+use Rattle.std.proofs.Common.{◌≡◌, ℕ, zero, suc, ◌<◌, ◌≤◌, ◌⊎◌, inl, inr, List, [], ◌∷◌, ◌++◌, Some, None, refl, ap, sym, ◌∙◌, subst, arith, length, slice_get}
 use Rattle.merc_rights.specs.declared.sites.SiteInfo.{SiteInfo}
 use Rattle.merc_pool.specs.declared.shares.Share.{Share}
 use Rattle.merc_pool.specs.Shares.{AreShares, IsShare}
@@ -27,9 +26,9 @@ last-or [] x y zero is = inr (refl, some-same is)
 last-or [] x y (suc i) is = absurd (cc)
 last-or (z ∷ zs) x y zero is = inl is
 last-or (z ∷ zs) x y (suc i) is = elim (last-or zs x y i is) [
-    inl before ↦ inl before
+  | inl before ↦ inl before
   | inr last ↦ inr (ap suc last.0, last.1)
-  ]
+]
 
 abbrev pub EachIs : List SiteInfo → List Share → Type 0
 EachIs sites shares = (site : ℕ) (info : SiteInfo) (share : Share) → slice_get sites site ≡ Some info → slice_get shares site ≡ Some share → IsShare info share
@@ -38,15 +37,14 @@ pub share-made : (sites : List SiteInfo) (old new : List Share) (site : ℕ) (in
     → new ≡ old ++ share ∷ [] → EachIs sites old → (length new ≤ length sites) × EachIs sites new
 share-made sites old new site info share at found is put each =
     let within = there sites site info found in
-    let longer = ap length put ∙ one-more old share in
-    (
+    let longer = ap length put ∙ one-more old share in (
       omega (arith, within, at, longer),
       λ other info' share' found' has. elim (last-or old share share' other (ap (λ (l : List Share). slice_get l other) (sym put) ∙ has)) [
-          inl before ↦ each other info' share' found' before
+        | inl before ↦ each other info' share' found' before
         | inr last ↦ (
             let same : info ≡ info' = some-same (sym found ∙ ap (λ (i : ℕ). slice_get sites i) (at ∙ sym last.0) ∙ found') in
             subst (λ (i : SiteInfo). IsShare i share') same (subst (λ (s : Share). IsShare info s) last.1 is))
-        ],
+      ],
     )
 
 pub all-made : (sites : List SiteInfo) (shares : List Share) (site : ℕ) → site ≡ length shares → slice_get sites site ≡ None → length shares ≤ length sites → EachIs sites shares → AreShares sites shares

@@ -1,5 +1,5 @@
 -- What the stops of the root say to the asker.
-use Rattle.std.proofs.Common.{◌≡◌, ◌≢◌, ℕ, suc, ◌+◌, Bool, true, false, not, eqb, List, Option, Some, None, SomeIff, refl, ap, sym, ◌∙◌, subst, arith, slice_get}
+use Rattle.std.proofs.Common.{◌≡◌, ◌≢◌, ℕ, suc, Bool, true, false, not, eqb, List, Option, Some, None, SomeIff, refl, ap, sym, ◌∙◌, subst, arith, slice_get}
 use Rattle.std.proofs.lemmas.Bool.Decides.{nat_tests}
 use Rattle.std.specs.Option.{option_eq}
 use Rattle.std.specs.declared.boxed.Box.{Box}
@@ -8,7 +8,7 @@ use Rattle.merc_meaning.specs.Trace.{Run, RunEnd, RunDone, RunRaised, LimitPasse
 use Rattle.merc_script.specs.Script.{Script}
 use Rattle.merc_rights.specs.declared.sites.SiteInfo.{SiteInfo}
 use Rattle.merc_machine.specs.declared.running.Stop.{Stop}
-use Rattle.merc_machine.specs.declared.running.Stop.TheVariants.{Answer as AnswerStop, Ended, Raised as RaisedStop, LimitPassed as LimitStop, NoMemory as NoMemoryStop}
+use Rattle.merc_machine.specs.declared.running.Stop.TheVariants.{Ended, Raised as RaisedStop, LimitPassed as LimitStop, NoMemory as NoMemoryStop}
 use Rattle.merc_carried.specs.Runs.{answers_of, steps_before, HasEnded}
 use Rattle.merc_board.specs.declared.board.Board as Board
 use Rattle.merc_board.specs.declared.branch.Branch.{Branch}

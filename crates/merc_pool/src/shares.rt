@@ -27,7 +27,9 @@ pub fn shares_of(alloc: Global, plan: &Plan) -> Result<Vec<Share>, NoMemory>
     ensures { IfOk result (λ shares. AreShares plan.now shares.items) }
 {
     let mut shares = Vec::new(alloc);
-    while let Some(info) = plan.site(Site { number: shares.len() }) {
+    while let Some(info) = plan.site(Site {
+        number: shares.len(),
+    }) {
         let share = share_of(alloc, info)?;
         shares.push(share)?;
     }

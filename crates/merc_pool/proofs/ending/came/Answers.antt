@@ -1,4 +1,4 @@
-use Rattle.std.proofs.Common.{refl, sym, ◌∙◌, suc, arith}
+use Rattle.std.proofs.Common.{arith}
 use Rattle.merc_pool.proofs.Ends.{has-answer}
 use Rattle.merc_pool.proofs.ending.came.Goals as goal
 

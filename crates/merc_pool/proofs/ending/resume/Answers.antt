@@ -13,7 +13,7 @@ rejoin-requires-after_bounds g c κs within =
     let same = rw w at c.in-Outcome.ensures.rights in
     let came = rw w at c.in-Outcome.ensures.resumed in
     let joins = parent-joins g.M.Engine g.N.Asked g.B.Board c.args.shared.now.board c.resume.new.seat c.args.worker.now.seat c.args.parent.value c.resume.new.hold c.in-Outcome.outcome c.requires.parent same came
-        c.in_default.not-NoMemory c.in_default.not-Starved in
+    c.in_default.not-NoMemory c.in_default.not-Starved in
     rw (v, w) (g.B.Board.rights c.resume.new.hold, c.requires.parent.0, joins.0)
 
 pub returns-in-NoMemory : goal.returns-in-NoMemory
@@ -39,7 +39,7 @@ returns-in_default g c =
     let same = rw w at c.in-Outcome.ensures.rights in
     let came = rw w at c.in-Outcome.ensures.resumed in
     let joins = parent-joins g.M.Engine g.N.Asked g.B.Board c.args.shared.now.board c.resume.new.seat c.args.worker.now.seat c.args.parent.value c.resume.new.hold c.in-Outcome.outcome c.requires.parent same came
-        c.in_default.not-NoMemory c.in_default.not-Starved in
+    c.in_default.not-NoMemory c.in_default.not-Starved in
     let stands = rw (v, w) at c.rejoin.ensures in
     (rw v (next c.requires.parent.0, joins.1, stands (g.B.Board.rights c.resume.new.hold) c.requires.parent.0 joins.0), never-allowed)
 

@@ -4,8 +4,7 @@ use Rattle.merc_pool.proofs.ending.stopped.Goals as goal
 
 pub came-requires-after_bounds : goal.came-requires-after_bounds
 came-requires-after_bounds g c κs within =
-    let named = rw c.deref.ensures at c.if-is_root.ensures.named in
-    (
+    let named = rw c.deref.ensures at c.if-is_root.ensures.named in (
       c.requires.0,
       c.requires.1,
       root-came g.M.Engine g.N.Asked g.B.Board c.requires.0 c.requires.1 c.args.branch.value c.args.stop c.requires.2 (λ at. named refl c.requires.0 c.requires.1 at),

@@ -1,5 +1,4 @@
-use Rattle.std.proofs.Common.{◌∙◌, rules, sym}
-use Rattle.merc_pool.specs.Hands.{IsAtAnswer}
+use Rattle.std.proofs.Common.{◌∙◌, sym}
 use Rattle.merc_pool.proofs.Told.{answer-steps, came-back, empty-steps, empty-tallied, end-counts, end-home, end-next, tallied-there}
 use Rattle.merc_pool.proofs.telling.tell.Goals as goal
 
@@ -29,5 +28,5 @@ returns-in-Came g c =
       home = λ board back. end-home g.M.Engine g.N.Asked g.B.Board board c.args.given.now a.branch.value.load.progress.given a.stop c.end_told.result _ says;
       tallied = λ plain tallied. empty-tallied g.M.Engine c.replace.new.dest c.replace.ensures.after;
       counted = λ plain tallied. end-counts g.M.Engine g.N.Asked g.B.Board c.requires.0 seat a.branch.value a.stop c.args.given.now _ c.end_told.result says came plain
-        (λ kept. empty-steps c.replace-in-Came.result c.replace.new.dest c.replace.ensures.after ∙ ticks ∙ tallied-there g.M.Engine c.args.slot.now.hand a.branch a.stop is kept tallied);
+          (λ kept. empty-steps c.replace-in-Came.result c.replace.new.dest c.replace.ensures.after ∙ ticks ∙ tallied-there g.M.Engine c.args.slot.now.hand a.branch a.stop is kept tallied);
     }
