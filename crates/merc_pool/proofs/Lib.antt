@@ -4,3 +4,4 @@ pub mod BehindForks
 pub mod Ends
 pub mod Told
 pub mod Ran
+mod TellingExamples
