@@ -1,5 +1,5 @@
 -- What a worker has in hand, and what is known of it.
-use Rattle.std.specs.Prelude.{◌≡◌, ℕ, suc, ◌+◌, ◌-◌, Bool, true, List, [], Option, Some, None, slice_get}
+use Rattle.std.specs.Prelude.{◌≡◌, ◌⊎◌, ℕ, suc, ◌+◌, ◌-◌, Bool, true, List, [], Option, Some, None, slice_get}
 use Rattle.std.specs.declared.boxed.Box.{Box}
 use Rattle.merc_meaning.specs.Trace.{Env}
 use Rattle.merc_value.specs.Block.{BlockData}
@@ -89,6 +89,10 @@ module _ {M N B H S W G C : Type 0} (m : Engine.Ghosts M) (n : Asked.Ghosts N) (
   -- where the worker thinks that it may run one more slice of a branch other than the root, it may
   abbrev pub IsAllowed : Worker S → Type 0
   IsAllowed worker = worker.may_run ≡ true → b.may_run worker.seat
+
+  -- .. and so it is for the branch in hand, which may also be the root
+  abbrev pub MayRun : Worker S → Branch (Carried M N) H → Type 0
+  MayRun worker branch = (b.of_root branch.hold ≡ true) ⊎ (worker.may_run ≡ true)
 
   abbrev pub IsAtWork : B → Worker S → Hand (Carried M N) H → Type 0
   IsAtWork board worker hand = HandIs board worker.seat hand × IsAllowed worker
