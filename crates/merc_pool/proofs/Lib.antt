@@ -1,2 +1,3 @@
 mod Ran
 mod Living
+mod Meetings

@@ -105,4 +105,4 @@ module _ {M N B H S W G C : Type 0} (m : Engine.Ghosts M) (n : Asked.Ghosts N) (
   -- .. the root, of which it was perhaps told less
   abbrev pub RootCameTo : B → S → Branch (Carried M N) H → Stop → Type 0
   RootCameTo board seat branch stop =
-      (at : Place) × (at.name ≡ []) × HasPassed board seat branch at × StoppedAt m n.sites n.root n.run branch.load.progress (b.rights branch.hold) at stop
+      (at : Place) × (at.name ≡ []) × (stop ≡ Answer → HasPassed board seat branch at) × StoppedAt m n.sites n.root n.run branch.load.progress (b.rights branch.hold) at stop
