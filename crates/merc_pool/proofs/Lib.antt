@@ -1,7 +1,9 @@
-pub mod Mapped
-pub mod SharesMade
-pub mod BehindForks
-pub mod Ends
-pub mod Told
-pub mod Ran
+mod Mapped
+mod SharesMade
+mod BehindForks
+mod Ends
+mod Told
+mod Ran
+mod Living
+mod Meetings
 mod TellingExamples

@@ -1,5 +1,5 @@
 -- What a worker has in hand, and what is known of it.
-use Rattle.std.specs.Prelude.{◌≡◌, ℕ, suc, ◌+◌, ◌-◌, Bool, true, List, [], Option, Some, None, slice_get}
+use Rattle.std.specs.Prelude.{◌≡◌, ◌⊎◌, ℕ, suc, ◌+◌, ◌-◌, Bool, true, List, [], Option, Some, None, slice_get}
 use Rattle.std.specs.declared.boxed.Box.{Box}
 use Rattle.merc_meaning.specs.Trace.{Env, Run, Answer as RunAnswer}
 use Rattle.merc_value.specs.Block.{BlockData}
@@ -90,6 +90,10 @@ module _ {M N B H S W G C : Type 0} (m : Engine.Ghosts M) (n : Asked.Ghosts N) (
   abbrev pub IsAllowed : Worker S → Type 0
   IsAllowed worker = worker.may_run ≡ true → b.may_run worker.seat
 
+  -- .. and so it is for the branch in hand, which may also be the root
+  abbrev pub MayRun : Worker S → Branch (Carried M N) H → Type 0
+  MayRun worker branch = (b.of_root branch.hold ≡ true) ⊎ (worker.may_run ≡ true)
+
   abbrev pub IsAtWork : B → Worker S → Hand (Carried M N) H → Type 0
   IsAtWork board worker hand = HandIs board worker.seat hand × IsAllowed worker
 
@@ -101,4 +105,4 @@ module _ {M N B H S W G C : Type 0} (m : Engine.Ghosts M) (n : Asked.Ghosts N) (
   -- .. the root, of which it was perhaps told less
   abbrev pub RootCameTo : B → S → Branch (Carried M N) H → Stop → Type 0
   RootCameTo board seat branch stop =
-      (at : Place) × (at.name ≡ []) × HasPassed board seat branch at × StoppedAt m n.sites n.root n.run branch.load.progress (b.rights branch.hold) at stop
+      (at : Place) × (at.name ≡ []) × (stop ≡ Answer → HasPassed board seat branch at) × StoppedAt m n.sites n.root n.run branch.load.progress (b.rights branch.hold) at stop

@@ -3,10 +3,7 @@ ghost use Rattle.std.specs.Prelude.{◌≡◌, ◌<◌, ◌≤◌, true, false, 
 ghost use Rattle.merc_machine.specs.declared.running.Stop.{Stop};
 ghost use Rattle.merc_meaning.specs.Counting.{counted};
 ghost use Rattle.merc_pool.specs.Asking.{Asks};
-ghost use Rattle.merc_board.specs.Rights.{Rights};
-ghost use Rattle.merc_script.specs.Places.{Place};
-ghost use Rattle.merc_pool.specs.Carrying.{IsPlain, Stands};
-ghost use Rattle.merc_pool.specs.Running.{CountsSlice, RunsTo};
+ghost use Rattle.merc_pool.specs.Carrying.{IsPlain};
 ghost use Rattle.merc_pool.specs.Hands.{IsAllowed};
 ghost use Rattle.merc_pool.specs.Sessions.{AloneHand, IsBack, IsCame, IsHome, IsHomeTallied, IsTallied, IsTalliedAlone, RootHand, steps_of, steps_told};
 ghost use Rattle.merc_pool.specs.Shares.{AreShares};
@@ -20,7 +17,7 @@ use crate::forking::begun;
 use crate::hand::Hand;
 use crate::load::{Asked, Carried};
 use crate::next::Next;
-use crate::running::run_slice;
+use crate::running::run_load;
 use crate::shared::{Shared, Slot, Worker};
 use crate::shares::shares_of;
 use crate::telling::tell;
@@ -252,8 +249,10 @@ fn alone<M: Engine, N: Asked + Send, B: Board<Carried<M, N>>, G: Gate, R: Wait>(
         Hand::Runs(branch) => branch,
         hand => return hand,
     };
+    // the root counts its steps itself
+    let mut none = Ticks::new();
     for _ in rt.forever() {
-        match run_alone::<M, N, G>(gate, &mut branch.load) {
+        match run_load(gate, true, ALONE, &mut none, &mut branch.load) {
             Stop::SliceOver => {}
             Stop::AtFork(_) => return Hand::Runs(branch),
             Stop::AtWait(_) => return Hand::Runs(branch),
@@ -263,15 +262,6 @@ fn alone<M: Engine, N: Asked + Send, B: Board<Carried<M, N>>, G: Gate, R: Wait>(
         }
     }
     unreachable!()
-}
-
-// Runs the root for as many steps as it makes.
-fn run_alone<M: Engine, N: Asked, G: Gate>(gate: &G, load: &mut Carried<M, N>) -> Stop
-    requires stands { (rights : Rights) × (from : Place) × Stands M.Engine N.sites N.root N.run load.old.progress rights from }
-    ensures runs { (rights : Rights) (from : Place) → Stands M.Engine N.sites N.root N.run load.old.progress rights from → RunsTo M.Engine N.sites N.root N.run ALONE load.old.progress load.new.progress rights from result }
-    ensures counts { CountsSlice (M.seen load.old.progress.machine) (M.seen load.new.progress.machine) load.old.ticks load.new.ticks result }
-{
-    run_slice::<M, N, G>(gate, ALONE, &mut load.enters, &mut load.ticks, &mut load.progress)
 }
 
 // Runs the root up to its next stop: on the calling thread, and from its first fork on with all workers. The worker that has it.

@@ -3,7 +3,7 @@ ghost use Rattle.std.specs.Prelude.{◌≡◌, true, false, IfOk, IfErr};
 ghost use Rattle.merc_board.specs.Boarding.{MayReport};
 ghost use Rattle.merc_script.specs.Places.{Place};
 ghost use Rattle.merc_pool.specs.Carrying.{IsCounted, made_by, unreported};
-ghost use Rattle.merc_pool.specs.Hands.{CanEnd, HasComeTo, HasPassed, IsAllowed, IsAtWork, IsLive};
+ghost use Rattle.merc_pool.specs.Hands.{CanEnd, HasComeTo, HasPassed, IsAllowed, IsAtWork, IsLive, MayRun};
 ghost use Rattle.merc_pool.specs.Shares.{AreShares};
 
 use crate::engine::Engine;
@@ -12,7 +12,7 @@ use crate::forking::{at_fork, found};
 use crate::hand::Hand;
 use crate::load::{Asked, Carried};
 use crate::meeting::{at_signal, at_wait, give};
-use crate::running::run_slice;
+use crate::running::run_load;
 use crate::shared::{Shared, Worker};
 use merc_base::Gate;
 use merc_board::{Board, Branch, Pace};
@@ -56,7 +56,7 @@ fn run_branch<M: Engine, N: Asked + Send, B: Board<Carried<M, N>>, G: Gate, R: W
     requires allowed { IsAllowed M.Engine N.Asked B.Board worker.old }
     ensures { IsAtWork M.Engine N.Asked B.Board shared.now.board worker.new result }
 {
-    match make_slice(rt, shared, gate, worker, &mut branch) {
+    match make_slice(rt, &shared.board, gate, worker, &mut branch) {
         Err(outcome) => Hand::Ends(branch, outcome),
         Ok(stop) => at_stop(rt, shared, worker, branch, stop),
     }
@@ -88,32 +88,48 @@ fn at_stop<M: Engine, N: Asked + Send, B: Board<Carried<M, N>>, R: Wait>(
 // short.
 fn make_slice<M: Engine, N: Asked + Send, B: Board<Carried<M, N>>, G: Gate, R: Wait>(
     rt: &R,
-    shared: &Shared<B>,
+    board: &B,
     gate: &G,
     worker: &mut Worker<B::Seat>,
     branch: &mut Branch<Carried<M, N>, B::Hold>,
 ) -> Result<Stop, Outcome>
-    requires live { IsLive M.Engine N.Asked B.Board shared.now.board worker.old.seat branch.old }
+    requires live { IsLive M.Engine N.Asked B.Board board.now worker.old.seat branch.old }
     requires allowed { IsAllowed M.Engine N.Asked B.Board worker.old }
-    ensures ok { IfOk result (λ stop. HasComeTo M.Engine N.Asked B.Board shared.now.board worker.new.seat branch.new stop) }
-    ensures err { IfErr result (λ outcome. CanEnd M.Engine N.Asked B.Board shared.now.board worker.new.seat branch.new outcome) }
+    ensures ok { IfOk result (λ stop. HasComeTo M.Engine N.Asked B.Board board.now worker.new.seat branch.new stop) }
+    ensures err { IfErr result (λ outcome. CanEnd M.Engine N.Asked B.Board board.now worker.new.seat branch.new outcome) }
     ensures allowed { IsAllowed M.Engine N.Asked B.Board worker.new }
 {
     let is_root = B::is_root(&branch.hold);
-    if !is_root && !worker.may_run && !report(rt, &shared.board, worker, branch) {
+    if !may_go(rt, board, is_root, worker, branch) {
         return Err(Outcome::Starved);
     }
-    let load = &mut branch.load;
-    let ticks = if is_root { &mut load.ticks } else { &mut worker.ticks };
-    let stop = run_slice::<M, N, G>(gate, SLICE, &mut load.enters, ticks, &mut load.progress);
+    let stop = run_load(gate, is_root, SLICE, &mut worker.ticks, &mut branch.load);
     if let Stop::NoMemory = stop {
         return Err(Outcome::NoMemory);
     }
-    if report(rt, &shared.board, worker, branch) {
+    if report(rt, board, worker, branch) {
         Ok(stop)
     } else {
         Err(Outcome::Starved)
     }
+}
+
+// Whether the worker may run a slice of a branch. Where it does not know that, it asks the board.
+fn may_go<M: Engine, N: Asked + Send, B: Board<Carried<M, N>>, R: Wait>(
+    rt: &R,
+    board: &B,
+    is_root: bool,
+    worker: &mut Worker<B::Seat>,
+    branch: &mut Branch<Carried<M, N>, B::Hold>,
+) -> bool
+    requires live { IsLive M.Engine N.Asked B.Board board.now worker.old.seat branch.old }
+    requires root { is_root ≡ B.of_root branch.old.hold }
+    ensures live { result ≡ true → IsLive M.Engine N.Asked B.Board board.now worker.new.seat branch.new }
+    ensures may { result ≡ true → MayRun M.Engine N.Asked B.Board worker.new branch.new }
+    ensures cut { result ≡ false → B.starved board.now worker.new.seat branch.new.hold }
+    ensures allowed { IsAllowed M.Engine N.Asked B.Board worker.old → IsAllowed M.Engine N.Asked B.Board worker.new }
+{
+    is_root || worker.may_run || report(rt, board, worker, branch)
 }
 
 // Tells the board of the steps of a branch of which it was not told yet. Whether the branch goes on.
