@@ -106,7 +106,7 @@ module _ {M N B H S W G C : Type 0} (m : Engine.Ghosts M) (n : Asked.Ghosts N) (
       let reported = come.2 in (
         come.0,
         named come.0 come.1,
-        record { from = come.0; passed = 0; owned = come.1; ticked = not_ticked come.0 left.0 left.1; reported = omega (arith, reported) },
+        λ _. record { from = come.0; passed = 0; owned = come.1; ticked = not_ticked come.0 left.0 left.1; reported = omega (arith, reported) },
         come.3,
       )
 
@@ -115,11 +115,12 @@ module _ {M N B H S W G C : Type 0} (m : Engine.Ghosts M) (n : Asked.Ghosts N) (
       → IsAtAnswer m n b board seat (record branch { load = record branch.load { progress = record branch.load.progress { given = given } } })
   has-answer branch given is came =
       let there = came.3 in
+      let passed = came.2 refl in
       record {
         rooted = record {
           at = came.0;
           named = came.1;
-          passed = record { from = came.2.from; passed = came.2.passed; owned = came.2.owned; ticked = came.2.ticked; reported = came.2.reported };
+          passed = record { from = passed.from; passed = passed.passed; owned = passed.owned; ticked = passed.ticked; reported = passed.reported };
           stands = subst (λ (k : ℕ). Stands m n.sites n.root n.run (record branch.load.progress { given = k }) (b.rights branch.hold) came.0) (sym is) (goes_on there.course there.rest there.on);
         };
         values = there.values;

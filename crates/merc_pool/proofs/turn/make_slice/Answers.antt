@@ -39,7 +39,7 @@ returns-then-report-clause-ok g c =
     let live = c.if-not-may_go.ensures.live refl in
     let ran = c.run_load-stop.ensures.runs (g.B.Board.rights c.may_go.new.branch.hold) live.0 live.2.1 c.in_default.not-NoMemory in
     let passed = ran_passed g.M.Engine g.N.Asked g.B.Board c.args.board.now c.may_go.new.worker.seat 255 c.may_go.new.branch.load c.run_load-stop.new.load c.may_go.new.branch.hold
-        c.run_load-stop.result live ran in
+    c.run_load-stop.result live ran in
     let r = c.if-report.ensures in
     ran_told g.M.Engine g.N.Asked g.B.Board c.args.board.now c.may_go.new.worker.seat c.report.new.worker.seat 255 c.may_go.new.branch.load c.run_load-stop.new.load c.report.new.branch.load
     c.may_go.new.branch.hold c.report.new.branch.hold c.run_load-stop.result live ran (r.on refl ran.at passed) r.rights r.progress
