@@ -1,5 +1,5 @@
 -- How branches end, and how their parents go on.
-use Rattle.std.proofs.Common.{◌≡◌, ◌≢◌, ℕ, suc, ◌⊎◌, inl, inr, true, false, List, [], Some, refl, sym, ◌∙◌, subst, arith}
+use Rattle.std.proofs.Common.{◌≡◌, ◌≢◌, ℕ, suc, ◌⊎◌, inl, inr, true, false, List, [], Some, refl, ap, sym, ◌∙◌, subst, arith}
 use Rattle.merc_meaning.specs.Trace.{Run}
 use Rattle.merc_script.specs.declared.outcome.Outcome.{Outcome}
 use Rattle.merc_script.specs.declared.outcome.Outcome.TheVariants.{Ok as Fine, Raise, Limit, Starved, NoMemory}
@@ -20,7 +20,7 @@ use Rattle.merc_pool.specs.declared.engine.Engine as Engine
 use Rattle.merc_pool.specs.declared.load.Asked as Asked
 use Rattle.merc_pool.specs.declared.load.Carried.{Carried}
 use Rattle.merc_pool.specs.declared.load.Progress.{Progress}
-use Rattle.merc_pool.specs.Carrying.{IsCounted, Stands, goes_on, has_stopped}
+use Rattle.merc_pool.specs.Carrying.{IsCounted, Stands, StandsAt, goes_on, has_stopped}
 use Rattle.merc_pool.specs.Running.{StoppedAt}
 use Rattle.merc_pool.specs.Ending.{IsOutcomeOf, IsJoinedFork}
 use Rattle.merc_pool.specs.Hands.{CanEnd, CameTo, HasComeTo, IsAtAnswer, IsParent, RootCameTo}
@@ -143,31 +143,51 @@ module _ {M N B H S W G C : Type 0} (m : Engine.Ghosts M) (n : Asked.Ghosts N) (
   came-to branch SliceOver other came = tt
   came-to branch NoMemoryStop other came = tt
 
-  -- Behind the call that says what its conjuncts came to, a parent ends for want of memory, or as one that starved.
-  pub parent-ends : (before : S) (parent : Branch (Carried M N) H) (hold : H) (outcome : Outcome) → (is : IsParent m n b board before parent)
-      → ((at : Place) (limit : ℕ) (cells : List Cell) (moves : List Move) (children : Children) (rest : Script) → b.holds board before parent.hold at → left_of at ≡ Some (ForkThen limit cells moves children rest)
-      → IsJoined (b.own board seat hold) (b.runs board seat hold) (b.starved board seat hold) at limit children outcome)
-      → (outcome ≡ NoMemory) ⊎ (outcome ≡ Starved) → CanEnd m n b board seat (record parent { hold = hold }) outcome
-  parent-ends before parent hold outcome is came (inl lost_it) =
-      let f = is.2 in
-      let there = came is.0 f.limit f.cells f.moves f.children f.rest is.1 f.on.left in
-      subst (λ (o : Outcome). CanEnd m n b board seat (record parent { hold = hold }) o) (sym lost_it)
-      (lost (subst (λ (o : Outcome). IsJoined (b.own board seat hold) (b.runs board seat hold) (b.starved board seat hold) is.0 f.limit f.children o) lost_it there))
-  parent-ends before parent hold outcome is came (inr starves_now) =
-      let f = is.2 in
-      let there = came is.0 f.limit f.cells f.moves f.children f.rest is.1 f.on.left in
-      subst (λ (o : Outcome). CanEnd m n b board seat (record parent { hold = hold }) o) (sym starves_now)
-      (starves (subst (λ (o : Outcome). IsJoined (b.own board seat hold) (b.runs board seat hold) (b.starved board seat hold) is.0 f.limit f.children o) starves_now there))
+  -- What the call says that hands out what the conjuncts of a parent came to.
+  abbrev pub HandsOut : S → Branch (Carried M N) H → H → Outcome → Type 0
+  HandsOut before parent hold outcome =
+      (at : Place) (limit : ℕ) (cells : List Cell) (moves : List Move) (children : Children) (rest : Script) → b.holds board before parent.hold at → left_of at ≡ Some (ForkThen limit cells moves children rest)
+      → IsJoined (b.own board seat hold) (b.runs board seat hold) (b.starved board seat hold) at limit children outcome
 
-  -- .. or goes on that says what its conjuncts came to
-  pub parent-joins : (before : S) (parent : Branch (Carried M N) H) (hold : H) (outcome : Outcome) → (is : IsParent m n b board before parent) → b.rights hold ≡ b.rights parent.hold
-      → ((at : Place) (limit : ℕ) (cells : List Cell) (moves : List Move) (children : Children) (rest : Script) → b.holds board before parent.hold at → left_of at ≡ Some (ForkThen limit cells moves children rest)
-      → IsJoined (b.own board seat hold) (b.runs board seat hold) (b.starved board seat hold) at limit children outcome)
-      → outcome ≢ NoMemory → outcome ≢ Starved → IsJoinedFork m n.sites n.root n.run parent.load.progress (b.rights hold) is.0 outcome × b.own board seat hold (next is.0)
-  parent-joins before parent hold outcome is same came kept fed =
+  handed-out : (before : S) (parent now : Branch (Carried M N) H) (hold : H) (outcome : Outcome) → (is : IsParent m n b board before parent) → now ≡ parent → HandsOut before now hold outcome
+      → IsJoined (b.own board seat hold) (b.runs board seat hold) (b.starved board seat hold) is.0 is.2.limit is.2.children outcome
+  handed-out before parent now hold outcome is same out =
       let f = is.2 in
-      let joins = joined-truly (b.own board seat hold) (b.runs board seat hold) (b.starved board seat hold) is.0 f.limit f.children outcome kept fed (came is.0 f.limit f.cells f.moves f.children f.rest is.1 f.on.left) in (
-        record {
+      out is.0 f.limit f.cells f.moves f.children f.rest (subst (λ (p : Branch (Carried M N) H). b.holds board before p.hold is.0) (sym same) is.1) f.on.left
+
+  -- Behind it the parent ends for want of memory, or as one that starved.
+  pub parent-lost : (before : S) (parent now : Branch (Carried M N) H) (hold : H) (outcome : Outcome) → IsParent m n b board before parent → now ≡ parent → HandsOut before now hold outcome
+      → outcome ≡ NoMemory → CanEnd m n b board seat (record now { hold = hold }) NoMemory
+  parent-lost before parent now hold outcome is same out lacks =
+      lost (subst (λ (o : Outcome). IsJoined (b.own board seat hold) (b.runs board seat hold) (b.starved board seat hold) is.0 is.2.limit is.2.children o) lacks (handed-out before parent now hold outcome is same out))
+
+  pub parent-starves : (before : S) (parent now : Branch (Carried M N) H) (hold : H) (outcome : Outcome) → IsParent m n b board before parent → now ≡ parent → HandsOut before now hold outcome
+      → outcome ≡ Starved → CanEnd m n b board seat (record now { hold = hold }) Starved
+  parent-starves before parent now hold outcome is same out lacks =
+      starves (subst (λ (o : Outcome). IsJoined (b.own board seat hold) (b.runs board seat hold) (b.starved board seat hold) is.0 is.2.limit is.2.children o) lacks (handed-out before parent now hold outcome is same out))
+
+  -- .. or is to run its conjuncts again, which nobody does
+  pub parent-restarts : (before : S) (parent now : Branch (Carried M N) H) (hold : H) → IsParent m n b board before parent → now ≡ parent
+      → ((at : Place) (limit : ℕ) (cells : List Cell) (moves : List Move) (children : Children) (rest : Script) → b.holds board before now.hold at → left_of at ≡ Some (ForkThen limit cells moves children rest) → b.runs board seat hold)
+      → CanEnd m n b board seat (record now { hold = hold }) NoMemory
+  parent-restarts before parent now hold is same out =
+      let f = is.2 in
+      lost (out is.0 f.limit f.cells f.moves f.children f.rest (subst (λ (p : Branch (Carried M N) H). b.holds board before p.hold is.0) (sym same) is.1) f.on.left)
+
+  -- .. or goes on
+  record GoesOn (load : Carried M N) (hold : H) (outcome : Outcome) : Type 0 where
+    pub at : Place
+    pub joins : IsJoinedFork m n.sites n.root n.run load.progress (b.rights hold) at outcome
+    pub owned : b.own board seat hold (next at)
+
+  goes-on-there : (before : S) (parent : Branch (Carried M N) H) (hold : H) (outcome : Outcome) → (is : IsParent m n b board before parent) → b.rights hold ≡ b.rights parent.hold
+      → IsJoined (b.own board seat hold) (b.runs board seat hold) (b.starved board seat hold) is.0 is.2.limit is.2.children outcome → outcome ≢ NoMemory → outcome ≢ Starved → GoesOn parent.load hold outcome
+  goes-on-there before parent hold outcome is rights came kept fed =
+      let f = is.2 in
+      let joins = joined-truly (b.own board seat hold) (b.runs board seat hold) (b.starved board seat hold) is.0 f.limit f.children outcome kept fed came in
+      record {
+        at = is.0;
+        joins = record {
           fork = record {
             site = f.site;
             info = f.info;
@@ -180,7 +200,7 @@ module _ {M N B H S W G C : Type 0} (m : Engine.Ghosts M) (n : Asked.Ghosts N) (
             next = f.next;
             rest = f.rest;
             found = f.found;
-            handed = same ∙ f.handed;
+            handed = rights ∙ f.handed;
             stopped = f.stopped;
             meets = f.meets;
             on = f.on;
@@ -189,6 +209,27 @@ module _ {M N B H S W G C : Type 0} (m : Engine.Ghosts M) (n : Asked.Ghosts N) (
           joins = joins.0;
           has_memory = kept;
           is_fed = fed;
-        },
-        joins.1,
-      )
+        };
+        owned = joins.1;
+      }
+
+  goes-on : (before : S) (parent now behind : Branch (Carried M N) H) (hold : H) (outcome : Outcome) → IsParent m n b board before parent → now ≡ parent → behind ≡ record now { hold = hold }
+      → b.rights hold ≡ b.rights now.hold → HandsOut before now hold outcome → outcome ≢ NoMemory → outcome ≢ Starved → GoesOn behind.load behind.hold outcome
+  goes-on before parent now behind hold outcome is same then rights out kept fed =
+      let there = goes-on-there before parent hold outcome is (rights ∙ ap (λ (p : Branch (Carried M N) H). b.rights p.hold) same) (handed-out before parent now hold outcome is same out) kept fed in
+      subst (λ (p : Branch (Carried M N) H). GoesOn p.load p.hold outcome) (sym then) (subst (λ (p : Branch (Carried M N) H). GoesOn p.load hold outcome) (sym same) there)
+
+  pub parent-joins : (before : S) (parent now behind : Branch (Carried M N) H) (hold : H) (outcome : Outcome) → IsParent m n b board before parent → now ≡ parent → behind ≡ record now { hold = hold }
+      → b.rights hold ≡ b.rights now.hold → HandsOut before now hold outcome → outcome ≢ NoMemory → outcome ≢ Starved
+      → (rights : Rights) × (at : Place) × IsJoinedFork m n.sites n.root n.run behind.load.progress rights at outcome
+  parent-joins before parent now behind hold outcome is same then rights out kept fed =
+      let there = goes-on before parent now behind hold outcome is same then rights out kept fed in
+      (b.rights behind.hold, there.at, there.joins)
+
+  pub parent-goes-on : (before : S) (parent now behind : Branch (Carried M N) H) (hold : H) (outcome : Outcome) (progress : Progress M) → IsParent m n b board before parent → now ≡ parent → behind ≡ record now { hold = hold }
+      → b.rights hold ≡ b.rights now.hold → HandsOut before now hold outcome → outcome ≢ NoMemory → outcome ≢ Starved
+      → ((rights : Rights) (at : Place) → IsJoinedFork m n.sites n.root n.run behind.load.progress rights at outcome → StandsAt m n.sites n.root n.run progress rights (next at))
+      → (at : Place) × b.own board seat behind.hold at × StandsAt m n.sites n.root n.run progress (b.rights behind.hold) at
+  parent-goes-on before parent now behind hold outcome progress is same then rights out kept fed stands =
+      let there = goes-on before parent now behind hold outcome is same then rights out kept fed in
+      (next there.at, there.owned, stands (b.rights behind.hold) there.at there.joins)

@@ -8,7 +8,7 @@ use Rattle.merc_meaning.specs.Trace.{Run, RunEnd, RunDone, RunRaised, LimitPasse
 use Rattle.merc_script.specs.Script.{Script}
 use Rattle.merc_rights.specs.declared.sites.SiteInfo.{SiteInfo}
 use Rattle.merc_machine.specs.declared.running.Stop.{Stop}
-use Rattle.merc_machine.specs.declared.running.Stop.TheVariants.{Ended, Raised as RaisedStop, LimitPassed as LimitStop, NoMemory as NoMemoryStop}
+use Rattle.merc_machine.specs.declared.running.Stop.TheVariants.{Answer as AnswerStop, Ended, Raised as RaisedStop, LimitPassed as LimitStop, NoMemory as NoMemoryStop}
 use Rattle.merc_carried.specs.Runs.{answers_of, steps_before, HasEnded}
 use Rattle.merc_board.specs.declared.board.Board as Board
 use Rattle.merc_board.specs.declared.branch.Branch.{Branch}
@@ -48,6 +48,9 @@ module _ {M N H : Type 0} (m : Engine.Ghosts M) where
   pub tallied-there : (hand : Hand (Carried M N) H) (branch : Box (Branch (Carried M N) H) Global) (stop : Stop) → hand ≡ Came branch stop → stop ≢ NoMemoryStop → IsTallied m hand → branch.value.load.ticks ≡ made_by (m.seen branch.value.load.progress.machine)
   tallied-there hand branch stop is not_lost tallied = (subst (λ (h : Hand (Carried M N) H). IsTallied m h) is tallied) not_lost
 
+  pub answers-tallied : (hand : Hand (Carried M N) H) (branch : Box (Branch (Carried M N) H) Global) (stop : Stop) → hand ≡ Came branch stop → stop ≡ AnswerStop → IsTallied m hand → branch.value.load.ticks ≡ made_by (m.seen branch.value.load.progress.machine)
+  answers-tallied hand branch stop is answers tallied = tallied-there hand branch stop is (λ lost. absurd (let none : AnswerStop ≡ NoMemoryStop = sym answers ∙ lost in cc)) tallied
+
   pub empty-tallied : (hand : Hand (Carried M N) H) → hand ≡ Empty → IsTallied m hand
   empty-tallied hand is = subst (λ (h : Hand (Carried M N) H). IsTallied m h) (sym is) tt
 
@@ -63,6 +66,12 @@ module _ {M : Type 0} (m : Engine.Ghosts M) (sites : List SiteInfo) (root : Scri
 module _ {M N B H S W G C : Type 0} (m : Engine.Ghosts M) (n : Asked.Ghosts N) (b : Board.Ghosts B (Carried M N) H S W G C) (board : B) (seat : S) where
   pub came-back : (hand : Hand (Carried M N) H) (branch : Box (Branch (Carried M N) H) Global) (stop : Stop) → hand ≡ Came branch stop → BackHand m n b board seat hand → CameTo m n b board seat branch.value stop
   came-back hand branch stop is back = subst (λ (h : Hand (Carried M N) H). BackHand m n b board seat h) is back
+
+  -- .. where that is an answer
+  pub at-answer : (hand : Hand (Carried M N) H) (branch : Box (Branch (Carried M N) H) Global) (stop : Stop) (now : Branch (Carried M N) H) → hand ≡ Came branch stop → stop ≡ AnswerStop → now ≡ branch.value
+      → BackHand m n b board seat hand → IsAtAnswer m n b board seat now
+  at-answer hand branch stop now is answers same back =
+      subst (λ (x : Branch (Carried M N) H). IsAtAnswer m n b board seat x) (sym same) (subst (λ (s : Stop). CameTo m n b board seat branch.value s) answers (came-back hand branch stop is back))
 
   before-told : (branch : Branch (Carried M N) H) (told : ℕ) → branch.load.progress.given ≡ suc told → (at : IsAtAnswer m n b board seat branch) → at.before ≡ told
   before-told branch told is at = let counted = at.counted in omega (arith, counted, is)
