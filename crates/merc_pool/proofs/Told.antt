@@ -48,8 +48,8 @@ module _ {M N H : Type 0} (m : Engine.Ghosts M) where
   pub tallied-there : (hand : Hand (Carried M N) H) (branch : Box (Branch (Carried M N) H) Global) (stop : Stop) → hand ≡ Came branch stop → stop ≢ NoMemoryStop → IsTallied m hand → branch.value.load.ticks ≡ made_by (m.seen branch.value.load.progress.machine)
   tallied-there hand branch stop is not_lost tallied = (subst (λ (h : Hand (Carried M N) H). IsTallied m h) is tallied) not_lost
 
-  pub answers-tallied : (hand : Hand (Carried M N) H) (branch : Box (Branch (Carried M N) H) Global) (stop : Stop) → hand ≡ Came branch stop → stop ≡ AnswerStop → IsTallied m hand → branch.value.load.ticks ≡ made_by (m.seen branch.value.load.progress.machine)
-  answers-tallied hand branch stop is answers tallied = tallied-there hand branch stop is (λ lost. absurd (let none : AnswerStop ≡ NoMemoryStop = sym answers ∙ lost in cc)) tallied
+  pub answer-tallied : (hand : Hand (Carried M N) H) (branch : Box (Branch (Carried M N) H) Global) (stop : Stop) → hand ≡ Came branch stop → stop ≡ AnswerStop → IsTallied m hand → branch.value.load.ticks ≡ made_by (m.seen branch.value.load.progress.machine)
+  answer-tallied hand branch stop is answers tallied = tallied-there hand branch stop is (λ lost. absurd (let none : AnswerStop ≡ NoMemoryStop = sym answers ∙ lost in cc)) tallied
 
   pub empty-tallied : (hand : Hand (Carried M N) H) → hand ≡ Empty → IsTallied m hand
   empty-tallied hand is = subst (λ (h : Hand (Carried M N) H). IsTallied m h) (sym is) tt

@@ -33,21 +33,17 @@ pub(crate) fn tell<M: Engine, N: Asked + Send, B: Board<Carried<M, N>>>(
     ensures tallied { IsPlain N.root → IsTallied M.Engine slot.old.hand → IsTallied M.Engine slot.new.hand }
     ensures counted { IsPlain N.root → IsTallied M.Engine slot.old.hand → CountsNext N.run given.old (steps_of ticks.new slot.new.hand) result }
 {
-    match mem::replace(&mut slot.hand, Hand::Empty) {
-        Hand::Came(mut branch, Stop::Answer) => {
-            let Some(block) = told_answer::<M, N, B>(alloc, given, &branch) else {
-                *ticks = mem::replace(&mut branch.load.ticks, Ticks::new());
-                return Next::NoMemory;
-            };
+    let Hand::Came(mut branch, stop) = mem::replace(&mut slot.hand, Hand::Empty) else {
+        return Next::NoMemory;
+    };
+    if let Stop::Answer = stop {
+        if let Some(block) = told_answer::<M, N, B>(alloc, given, &branch) {
             slot.hand = Hand::Runs(branch);
-            Next::Answer(block)
+            return Next::Answer(block);
         }
-        Hand::Came(mut branch, stop) => {
-            *ticks = mem::replace(&mut branch.load.ticks, Ticks::new());
-            end_told(*given, branch.load.progress.given, stop)
-        }
-        _ => Next::NoMemory,
     }
+    *ticks = mem::replace(&mut branch.load.ticks, Ticks::new());
+    end_told(*given, branch.load.progress.given, stop)
 }
 
 // The answer at which the root stands, if it is the one behind so many, which then are one more.
