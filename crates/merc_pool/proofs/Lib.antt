@@ -1,3 +1,4 @@
 mod Ran
 mod Living
 mod Meetings
+mod Endings

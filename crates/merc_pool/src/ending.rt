@@ -1,4 +1,6 @@
 //! How branches end, and how their parents go on.
+ghost use Rattle.std.specs.Prelude.{◌≢◌};
+ghost use Rattle.merc_machine.specs.declared.running.Stop.TheVariants.{NoMemory};
 ghost use Rattle.merc_board.specs.Going.{next};
 ghost use Rattle.merc_board.specs.Rights.{Rights};
 ghost use Rattle.merc_script.specs.Places.{Place};
@@ -53,7 +55,7 @@ pub(crate) fn came<M: Engine, N: Asked + Send, B: Board<Carried<M, N>>>(
 
 // How a branch ends whose machine has stopped so. Only the root has answers.
 fn outcome_of<M: Engine>(machine: &M, stop: Stop) -> Outcome
-    requires { IsCounted (M.seen machine.now) }
+    requires { stop ≢ NoMemory → IsCounted (M.seen machine.now) }
     ensures { IsOutcomeOf (M.seen machine.now) stop result }
 {
     match stop {
