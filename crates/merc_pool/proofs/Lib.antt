@@ -2,3 +2,4 @@ mod Ran
 mod Living
 mod Meetings
 mod Endings
+mod Behind
