@@ -3,3 +3,4 @@ mod Living
 mod Meetings
 mod Endings
 mod Behind
+mod Parents
