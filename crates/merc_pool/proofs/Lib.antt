@@ -4,3 +4,5 @@ mod Meetings
 mod Endings
 mod Behind
 mod Parents
+mod Lists
+mod Forks
