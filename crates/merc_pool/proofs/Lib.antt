@@ -6,4 +6,6 @@ mod Told
 mod Ran
 mod Living
 mod Meetings
+mod Lists
+mod Forks
 mod TellingExamples
