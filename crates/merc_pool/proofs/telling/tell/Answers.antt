@@ -37,13 +37,13 @@ returns g c =
     let is = sym c.replace.ensures.value ∙ a.is in
     let came = came-back g.M.Engine g.N.Asked g.B.Board c.requires.0 seat c.args.slot.now.hand a.branch a.stop is c.requires.1.0 in
     let same : c.match-stop.given ≡ c.args.given.now = elim c.match-stop.branch [
-        in-Answer+in_default-told_answer w ↦ w.given-is ∙ w.in_default-told_answer.ensures
+      | in-Answer+in_default-told_answer w ↦ w.given-is ∙ w.in_default-told_answer.ensures
       | in_default-stop w ↦ w.given-is
-      ] in
+    ] in
     let there = ap (λ (b : Branch (Carried g.row.M.Denot g.row.N.Denot) g.row.B-Hold.Denot). b.load.progress.given) c.deref-2.ensures
-        ∙ ap (λ (b : Branch (Carried g.row.M.Denot g.row.N.Denot) g.row.B-Hold.Denot). b.load.progress.given) c.deref_mut.ensures.value in
+    ∙ ap (λ (b : Branch (Carried g.row.M.Denot g.row.N.Denot) g.row.B-Hold.Denot). b.load.progress.given) c.deref_mut.ensures.value in
     let says = subst (λ (k : ℕ). EndSays k a.branch.value.load.progress.given a.stop c.end_told.result) same
-        (subst (λ (k : ℕ). EndSays c.match-stop.given k a.stop c.end_told.result) there c.end_told.ensures.next) in
+    (subst (λ (k : ℕ). EndSays c.match-stop.given k a.stop c.end_told.result) there c.end_told.ensures.next) in
     let ticks = c.replace-2.ensures.value ∙ ap (λ (b : Branch (Carried g.row.M.Denot g.row.N.Denot) g.row.B-Hold.Denot). b.load.ticks) c.deref_mut.ensures.value in
     record {
       next = end-next g.M.Engine g.N.Asked g.B.Board c.requires.0 seat a.branch.value a.stop c.args.given.now c.end_told.result says came;
