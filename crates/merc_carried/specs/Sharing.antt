@@ -9,13 +9,20 @@ use Rattle.merc_board.specs.declared.fork.Handover.{Handover}
 use Rattle.merc_board.specs.Rights.{Rights, child_rights, parent_rights}
 use Rattle.merc_board.specs.Boarding.{AreCells, numbers_of}
 
--- the cells of a site, as a board is told them
-abbrev pub shared_of : SiteInfo → List SharedCell
-shared_of info = map (λ one. record { variable = one.variable; producer = one.producer; consumer = one.consumer }) info.cells
+-- cells, as a board is told them
+abbrev pub cells_shared : List CellInfo → List SharedCell
+cells_shared cells = map (λ one. record { variable = one.variable; producer = one.producer; consumer = one.consumer }) cells
 
--- the rights that move there
+-- rights that move, as it is told them
+abbrev pub moves_given : List Moved → List Handover
+moves_given moves = map (λ one. record { variable = one.variable; child = one.child; signal = one.signal }) moves
+
+-- the cells of a site, and the rights that move there
+abbrev pub shared_of : SiteInfo → List SharedCell
+shared_of info = cells_shared info.cells
+
 abbrev pub given_of : SiteInfo → List Handover
-given_of info = map (λ one. record { variable = one.variable; child = one.child; signal = one.signal }) info.moves
+given_of info = moves_given info.moves
 
 -- the rights of a conjunct, numbered from 1, that a branch with these rights forks at a site
 abbrev pub rights_of_child : SiteInfo → List Cell → Rights → ℕ → Rights

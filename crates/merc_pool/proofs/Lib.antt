@@ -1,0 +1,11 @@
+mod Mapped
+mod SharesMade
+mod BehindForks
+mod Ends
+mod Told
+mod Ran
+mod Living
+mod Meetings
+mod Lists
+mod Forks
+mod TellingExamples

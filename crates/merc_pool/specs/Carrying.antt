@@ -22,7 +22,8 @@ use Rattle.merc_board.specs.Rights.{Rights, TookWait}
 use Rattle.merc_carried.specs.Sharing.{IsForkOf, rights_behind}
 use Rattle.merc_carried.specs.Runs.{IsLeftOf}
 use Rattle.merc_carried.specs.KeepsTo.{KeepsTo}
-use Rattle.merc_pool.specs.declared.load.Carried.{Carried}
+use Rattle.merc_pool.specs.declared.engine.Engine as Engine
+use Rattle.merc_pool.specs.declared.load.Progress.{Progress}
 
 -- the steps that a machine has made, those of conjuncts that joined among them
 abbrev pub made_by : Machine → ℕ
@@ -60,52 +61,52 @@ pub record IsCounted (machine : Machine) : Type 0 where
   pub few : machine.limit ≤ most_steps
 
 -- the steps of which its board was not told
-abbrev pub unreported : {N : Type 0} → Carried N → ℕ
-unreported load = made_by load.machine - load.reported
+abbrev pub unreported : Machine → (reported : ℕ) → ℕ
+unreported machine reported = made_by machine - reported
 
 -- Given are what stands at the sites, the script of the goal that is asked, and the run that is told of it.
-module _ {N : Type 0} (sites : List SiteInfo) (root : Script) (whole : Run) where
+module _ {M : Type 0} (m : Engine.Ghosts M) (sites : List SiteInfo) (root : Script) (whole : Run) where
   -- its board was told of all steps that the machine has made
-  abbrev pub IsReported : Carried N → Type 0
-  IsReported load = made_by load.machine ≡ load.reported
+  abbrev pub IsReported : Progress M → Type 0
+  IsReported progress = made_by (m.seen progress.machine) ≡ progress.reported
 
   -- The machine has this course before it, and keeps to what is left of its script at a place. What the root still shows is left of the whole run.
-  pub record IsOn (load : Carried N) (rights : Rights) (place : Place) (course : RunCourse) (rest : Script) : Type 0 where
+  pub record IsOn (progress : Progress M) (rights : Rights) (place : Place) (course : RunCourse) (rest : Script) : Type 0 where
     pub rooted : place.root ≡ root
     pub left : left_of place ≡ Some rest
     pub run : Run
-    pub keeps : KeepsTo sites (value_in (cells_of root)) rights (all_left load.machine) (made_by load.machine) run course rest
-    pub means : Means load.machine course
-    pub counted : IsCounted load.machine
-    pub tells : place.name ≡ [] → IsLeftOf whole load.given (made_by load.machine) run
+    pub keeps : KeepsTo sites (value_in (cells_of root)) rights (all_left (m.seen progress.machine)) (made_by (m.seen progress.machine)) run course rest
+    pub means : Means (m.seen progress.machine) course
+    pub counted : IsCounted (m.seen progress.machine)
+    pub tells : place.name ≡ [] → IsLeftOf whole progress.given (made_by (m.seen progress.machine)) run
 
   -- What is told where the root's machine has stopped so. Where nothing is forked the machine has made all steps that are shown.
-  pub record IsToldEnd (load : Carried N) (stop : Stop) : Type 0 where
+  pub record IsToldEnd (progress : Progress M) (stop : Stop) : Type 0 where
     pub made : ℕ
     pub end : RunEnd
-    pub left : IsLeftOf whole load.given made (RunEnds end)
+    pub left : IsLeftOf whole progress.given made (RunEnds end)
     pub shows : ShowsAs stop end
-    pub plain : IsPlain root → made ≡ made_by load.machine
+    pub plain : IsPlain root → made ≡ made_by (m.seen progress.machine)
 
   -- The machine does not run on, and its script ends at a place as the machine has stopped.
-  pub record HasStopped (load : Carried N) (stop : Stop) (end : Outcome) (place : Place) : Type 0 where
-    pub over : load.machine.over ≡ Some stop
+  pub record HasStopped (progress : Progress M) (stop : Stop) (end : Outcome) (place : Place) : Type 0 where
+    pub over : (m.seen progress.machine).over ≡ Some stop
     pub rooted : place.root ≡ root
     pub left : left_of place ≡ Some (Ends end)
-    pub ends : EndsAs stop (made_by load.machine) end
-    pub counted : IsCounted load.machine
-    pub tells : place.name ≡ [] → IsToldEnd load stop
+    pub ends : EndsAs stop (made_by (m.seen progress.machine)) end
+    pub counted : IsCounted (m.seen progress.machine)
+    pub tells : place.name ≡ [] → IsToldEnd progress stop
 
   -- a machine goes on, or has stopped
-  pub data Stands (load : Carried N) (rights : Rights) (place : Place) : Type 0 where
-    goes_on : (course : RunCourse) (rest : Script) → IsOn load rights place course rest → Stands load rights place
-    has_stopped : (stop : Stop) (end : Outcome) → HasStopped load stop end place → Stands load rights place
+  pub data Stands (progress : Progress M) (rights : Rights) (place : Place) : Type 0 where
+    goes_on : (course : RunCourse) (rest : Script) → IsOn progress rights place course rest → Stands progress rights place
+    has_stopped : (stop : Stop) (end : Outcome) → HasStopped progress stop end place → Stands progress rights place
 
-  abbrev pub StandsAt : Carried N → Rights → Place → Type 0
-  StandsAt load rights place = IsReported load × Stands load rights place
+  abbrev pub StandsAt : Progress M → Rights → Place → Type 0
+  StandsAt progress rights place = IsReported progress × Stands progress rights place
 
   -- The machine stands at a wait, for which the right was taken out of those that there were before.
-  pub record AwaitsAt (load : Carried N) (rights : Rights) (place : Place) : Type 0 where
+  pub record AwaitsAt (progress : Progress M) (rights : Rights) (place : Place) : Type 0 where
     pub variable : ℕ
     pub before : Rights
     pub cell : ℕ
@@ -113,13 +114,13 @@ module _ {N : Type 0} (sites : List SiteInfo) (root : Script) (whole : Run) wher
     pub next : Reply → RunCourse
     pub rest : Script
     pub took : TookWait variable before rights cell
-    pub stopped : load.stop ≡ AtWaitStop variable
-    pub meets : MeetsAt load.machine (Wait variable)
-    pub on : IsOn load before place (Meets (AtWait variable) forked next) (WaitThen cell rest)
-    pub reported : IsReported load
+    pub stopped : progress.stop ≡ AtWaitStop variable
+    pub meets : MeetsAt (m.seen progress.machine) (Wait variable)
+    pub on : IsOn progress before place (Meets (AtWait variable) forked next) (WaitThen cell rest)
+    pub reported : IsReported progress
 
   -- The machine stands at a fork, where rights were handed out of those that there were before.
-  pub record ForkedAt (load : Carried N) (rights : Rights) (place : Place) : Type 0 where
+  pub record ForkedAt (progress : Progress M) (rights : Rights) (place : Place) : Type 0 where
     pub site : Site
     pub info : SiteInfo
     pub before : Rights
@@ -132,7 +133,7 @@ module _ {N : Type 0} (sites : List SiteInfo) (root : Script) (whole : Run) wher
     pub rest : Script
     pub found : slice_get sites site.number ≡ Some info
     pub handed : rights ≡ rights_behind info cells before
-    pub stopped : load.stop ≡ AtForkStop site
-    pub meets : MeetsAt load.machine (Fork site)
-    pub on : IsOn load before place (Meets (AtFork site.number) forked next) (ForkThen limit cells moves children rest)
-    pub reported : IsReported load
+    pub stopped : progress.stop ≡ AtForkStop site
+    pub meets : MeetsAt (m.seen progress.machine) (Fork site)
+    pub on : IsOn progress before place (Meets (AtFork site.number) forked next) (ForkThen limit cells moves children rest)
+    pub reported : IsReported progress

@@ -1,5 +1,5 @@
 -- How branches end.
-use Rattle.std.specs.Prelude.{◌≡◌, ◌≢◌, ℕ, List}
+use Rattle.std.specs.Prelude.{◌≡◌, ◌≢◌, List}
 use Rattle.merc_meaning.specs.Trace.{Run}
 use Rattle.merc_script.specs.declared.outcome.Outcome.{Outcome}
 use Rattle.merc_script.specs.declared.outcome.Outcome.TheVariants.{Ok as Fine, Raise, Limit, Starved, NoMemory}
@@ -10,12 +10,9 @@ use Rattle.merc_rights.specs.declared.sites.SiteInfo.{SiteInfo}
 use Rattle.merc_machine.specs.declared.machine.Machine.{Machine}
 use Rattle.merc_machine.specs.declared.running.Stop.{Stop}
 use Rattle.merc_machine.specs.declared.running.Stop.TheVariants.{Answer, Ended, Raised, LimitPassed, Starved as StarvedStop, AtFork, AtWait, AtSignal, SliceOver, NoMemory as NoMemoryStop}
-use Rattle.merc_board.specs.declared.board.Board as Board
-use Rattle.merc_board.specs.declared.branch.Branch.{Branch}
 use Rattle.merc_board.specs.Rights.{Rights}
-use Rattle.merc_board.specs.Boarding.{IsJoined}
-use Rattle.merc_pool.specs.declared.load.Asked as Asked
-use Rattle.merc_pool.specs.declared.load.Carried.{Carried}
+use Rattle.merc_pool.specs.declared.engine.Engine as Engine
+use Rattle.merc_pool.specs.declared.load.Progress.{Progress}
 use Rattle.merc_pool.specs.Carrying.{made_by, ForkedAt}
 
 -- the outcome of a branch other than the root whose machine has stopped so
@@ -31,17 +28,10 @@ IsOutcomeOf machine (AtSignal variable) outcome = outcome ≡ NoMemory
 IsOutcomeOf machine SliceOver outcome = outcome ≡ NoMemory
 IsOutcomeOf machine NoMemoryStop outcome = outcome ≡ NoMemory
 
-module _ {N : Type 0} (sites : List SiteInfo) (root : Script) (whole : Run) where
+module _ {M : Type 0} (m : Engine.Ghosts M) (sites : List SiteInfo) (root : Script) (whole : Run) where
   -- A machine stands at a fork whose conjuncts join to this outcome, and behind which it can go on.
-  pub record IsJoinedFork (load : Carried N) (rights : Rights) (at : Place) (outcome : Outcome) : Type 0 where
-    pub fork : ForkedAt sites root whole load rights at
+  pub record IsJoinedFork (progress : Progress M) (rights : Rights) (at : Place) (outcome : Outcome) : Type 0 where
+    pub fork : ForkedAt m sites root whole progress rights at
     pub joins : joined fork.limit (ends fork.children) ≡ outcome
     pub has_memory : outcome ≢ NoMemory
     pub is_fed : outcome ≢ Starved
-
-module _ {N B H S W G C : Type 0} (n : Asked.Ghosts N) (b : Board.Ghosts B (Carried N) H S W G C) where
-  -- The seat's worker has a parent, whose conjuncts came to this.
-  pub record IsBehindFork (board : B) (seat : S) (branch : Branch (Carried N) H) (outcome : Outcome) : Type 0 where
-    pub at : Place
-    pub fork : ForkedAt n.sites n.root n.run branch.load (b.rights branch.hold) at
-    pub came : IsJoined (b.own board seat branch.hold) (b.runs board seat branch.hold) (b.starved board seat branch.hold) at fork.limit fork.children outcome

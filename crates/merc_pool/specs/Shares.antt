@@ -1,5 +1,5 @@
 -- What is made ready for a board, of each site.
-use Rattle.std.specs.Prelude.{◌≡◌, ℕ, List, Option, Some, None, length, slice_get}
+use Rattle.std.specs.Prelude.{◌≡◌, ℕ, List, Some, length, slice_get}
 use Rattle.merc_rights.specs.declared.sites.SiteInfo.{SiteInfo}
 use Rattle.merc_carried.specs.Sharing.{shared_of, given_of}
 use Rattle.merc_pool.specs.declared.shares.Share.{Share}

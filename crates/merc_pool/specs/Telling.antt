@@ -44,7 +44,15 @@ CountsNext run given steps (Raised text) = steps ≡ steps_before (suc given) ru
 CountsNext run given steps LimitPassed = steps ≡ steps_before (suc given) run
 CountsNext run given steps NoMemory = Unit {0}
 
--- what a stop that is told again says
+-- the stops that are told again
+abbrev pub IsLast : Stop → Type 0
+IsLast Ended = Unit {0}
+IsLast (RaisedStop text) = Unit {0}
+IsLast LimitStop = Unit {0}
+IsLast NoMemoryStop = Unit {0}
+IsLast stop = ⊥
+
+-- what such a stop says
 abbrev pub Tells : Stop → Next → Type 0
 Tells stop next = last_of next ≡ Some stop
 

@@ -61,9 +61,9 @@ impl Desk {
     pub fn wait_past<R: Wait>(&self, rt: &R, seen: u64) {
         let mut moves = self.moves.lock(rt);
         moves.waiting = moves.waiting.wrapping_add(1);
-        let mut moves = self.moved.wait_while(rt, moves, |moves| {
-            moves.count == seen && !moves.over
-        });
+        let mut moves = self
+            .moved
+            .wait_while(rt, moves, |moves| { moves.count == seen && !moves.over });
         moves.waiting = moves.waiting.wrapping_sub(1);
     }
 }

@@ -3,44 +3,45 @@ ghost use Rattle.merc_board.specs.Going.{next};
 ghost use Rattle.merc_board.specs.Rights.{Rights};
 ghost use Rattle.merc_script.specs.Places.{Place};
 ghost use Rattle.merc_pool.specs.Carrying.{IsCounted, StandsAt};
-ghost use Rattle.merc_pool.specs.Ending.{IsBehindFork, IsJoinedFork, IsOutcomeOf};
+ghost use Rattle.merc_pool.specs.Ending.{IsJoinedFork, IsOutcomeOf};
 ghost use Rattle.merc_pool.specs.Hands.{CanEnd, HandIs, HasComeTo, IsAllowed, IsAtWork, IsParent, RootCameTo};
 
+use crate::engine::Engine;
 use crate::hand::Hand;
-use crate::load::{Asked, Carried};
+use crate::load::{Asked, Carried, Progress};
 use crate::shared::{Shared, Worker};
 use merc_board::{Board, Branch, Resumed};
-use merc_machine::{Machine, Stop};
+use merc_machine::Stop;
 use merc_script::Outcome;
 use std::sync::Wait;
 
 /// A branch whose machine does not go on, or has an answer.
-pub(crate) fn stopped<'a, N: Asked + Send, B: Board<Carried<'a, N>>>(
-    branch: Box<Branch<Carried<'a, N>, B::Hold>>,
+pub(crate) fn stopped<M: Engine, N: Asked + Send, B: Board<Carried<M, N>>>(
+    branch: Box<Branch<Carried<M, N>, B::Hold>>,
     stop: Stop,
-) -> Hand<Carried<'a, N>, B::Hold>
-    requires { (board : B) × (seat : B.Seat) × HasComeTo N.Asked B.Board board seat branch.value stop }
-    ensures { (board : B) (seat : B.Seat) → HasComeTo N.Asked B.Board board seat branch.value stop → HandIs N.Asked B.Board board seat result }
+) -> Hand<Carried<M, N>, B::Hold>
+    requires { (board : B) × (seat : B.Seat) × HasComeTo M.Engine N.Asked B.Board board seat branch.value stop }
+    ensures { (board : B) (seat : B.Seat) → HasComeTo M.Engine N.Asked B.Board board seat branch.value stop → HandIs M.Engine N.Asked B.Board board seat result }
 {
     if B::is_root(&branch.hold) {
-        return came::<N, B>(branch, stop);
+        return came::<M, N, B>(branch, stop);
     }
-    let outcome = outcome_of(&branch.load.machine, stop);
+    let outcome = outcome_of(&branch.load.progress.machine, stop);
     Hand::Ends(branch, outcome)
 }
 
 /// The root at a stop. An answer is counted.
-pub(crate) fn came<'a, N: Asked + Send, B: Board<Carried<'a, N>>>(
-    mut branch: Box<Branch<Carried<'a, N>, B::Hold>>,
+pub(crate) fn came<M: Engine, N: Asked + Send, B: Board<Carried<M, N>>>(
+    mut branch: Box<Branch<Carried<M, N>, B::Hold>>,
     stop: Stop,
-) -> Hand<Carried<'a, N>, B::Hold>
-    requires { (board : B) × (seat : B.Seat) × RootCameTo N.Asked B.Board board seat branch.value stop }
-    ensures { (board : B) (seat : B.Seat) → RootCameTo N.Asked B.Board board seat branch.value stop → HandIs N.Asked B.Board board seat result }
+) -> Hand<Carried<M, N>, B::Hold>
+    requires { (board : B) × (seat : B.Seat) × RootCameTo M.Engine N.Asked B.Board board seat branch.value stop }
+    ensures { (board : B) (seat : B.Seat) → RootCameTo M.Engine N.Asked B.Board board seat branch.value stop → HandIs M.Engine N.Asked B.Board board seat result }
 {
     match stop {
-        Stop::Answer => match branch.load.given.checked_add(1) {
+        Stop::Answer => match branch.load.progress.given.checked_add(1) {
             Some(given) => {
-                branch.load.given = given;
+                branch.load.progress.given = given;
                 Hand::Came(branch, Stop::Answer)
             }
             // no run comes to so many
@@ -51,9 +52,9 @@ pub(crate) fn came<'a, N: Asked + Send, B: Board<Carried<'a, N>>>(
 }
 
 // How a branch ends whose machine has stopped so. Only the root has answers.
-fn outcome_of(machine: &Machine<'_>, stop: Stop) -> Outcome
-    requires { IsCounted machine.now }
-    ensures { IsOutcomeOf machine.now stop result }
+fn outcome_of<M: Engine>(machine: &M, stop: Stop) -> Outcome
+    requires { IsCounted (M.seen machine.now) }
+    ensures { IsOutcomeOf (M.seen machine.now) stop result }
 {
     match stop {
         Stop::Ended => Outcome::Ok(machine.used()),
@@ -65,16 +66,16 @@ fn outcome_of(machine: &Machine<'_>, stop: Stop) -> Outcome
 
 /// Ends a branch. The last conjunct hands its worker the parent. The root comes back: it lacks memory, or a value that does
 /// not come.
-pub(crate) fn end_branch<'a, N: Asked + Send, B: Board<Carried<'a, N>>, R: Wait>(
+pub(crate) fn end_branch<M: Engine, N: Asked + Send, B: Board<Carried<M, N>>, R: Wait>(
     rt: &R,
     shared: &Shared<B>,
     worker: &mut Worker<B::Seat>,
-    branch: Box<Branch<Carried<'a, N>, B::Hold>>,
+    branch: Box<Branch<Carried<M, N>, B::Hold>>,
     outcome: Outcome,
-) -> Hand<Carried<'a, N>, B::Hold>
-    requires can { CanEnd N.Asked B.Board shared.now.board worker.old.seat branch.value outcome }
-    requires allowed { IsAllowed N.Asked B.Board worker.old }
-    ensures { IsAtWork N.Asked B.Board shared.now.board worker.new result }
+) -> Hand<Carried<M, N>, B::Hold>
+    requires can { CanEnd M.Engine N.Asked B.Board shared.now.board worker.old.seat branch.value outcome }
+    requires allowed { IsAllowed M.Engine N.Asked B.Board worker.old }
+    ensures { IsAtWork M.Engine N.Asked B.Board shared.now.board worker.new result }
 {
     if B::is_root(&branch.hold) {
         return Hand::Came(branch, Stop::NoMemory);
@@ -89,49 +90,39 @@ pub(crate) fn end_branch<'a, N: Asked + Send, B: Board<Carried<'a, N>>, R: Wait>
 }
 
 // Goes on with a parent whose conjuncts have ended. Where they did not end well its machine stops at once.
-fn resume<'a, N: Asked + Send, B: Board<Carried<'a, N>>, R: Wait>(
+fn resume<M: Engine, N: Asked + Send, B: Board<Carried<M, N>>, R: Wait>(
     rt: &R,
     shared: &Shared<B>,
     worker: &mut Worker<B::Seat>,
-    mut parent: Box<Branch<Carried<'a, N>, B::Hold>>,
-) -> Hand<Carried<'a, N>, B::Hold>
-    requires parent { IsParent N.Asked B.Board shared.now.board worker.old.seat parent.value }
-    ensures { IsAtWork N.Asked B.Board shared.now.board worker.new result }
+    mut parent: Box<Branch<Carried<M, N>, B::Hold>>,
+) -> Hand<Carried<M, N>, B::Hold>
+    requires parent { IsParent M.Engine N.Asked B.Board shared.now.board worker.old.seat parent.value }
+    ensures { IsAtWork M.Engine N.Asked B.Board shared.now.board worker.new result }
 {
     worker.may_run = false;
-    match shared.board.resume(rt, &mut worker.seat, &mut parent.hold) {
-        Resumed::Outcome(outcome) => go_behind::<N, B>(parent, outcome),
+    let outcome = match shared.board.resume(rt, &mut worker.seat, &mut parent.hold) {
+        Resumed::Outcome(outcome) => outcome,
         // No board asks for it as long as none cuts branches short.
-        Resumed::Restart => Hand::Ends(parent, Outcome::NoMemory),
-    }
-}
-
-// What becomes of a parent whose conjuncts came to this outcome.
-fn go_behind<'a, N: Asked + Send, B: Board<Carried<'a, N>>>(
-    mut parent: Box<Branch<Carried<'a, N>, B::Hold>>,
-    outcome: Outcome,
-) -> Hand<Carried<'a, N>, B::Hold>
-    requires { (board : B) × (seat : B.Seat) × IsBehindFork N.Asked B.Board board seat parent.value outcome }
-    ensures { (board : B) (seat : B.Seat) → IsBehindFork N.Asked B.Board board seat parent.value outcome → HandIs N.Asked B.Board board seat result }
-{
+        Resumed::Restart => return Hand::Ends(parent, Outcome::NoMemory),
+    };
     match outcome {
         Outcome::NoMemory => Hand::Ends(parent, Outcome::NoMemory),
         Outcome::Starved => Hand::Ends(parent, Outcome::Starved),
         outcome => {
-            rejoin(&mut parent.load, outcome);
+            rejoin::<M, N>(&mut parent.load.progress, outcome);
             Hand::Runs(parent)
         }
     }
 }
 
 // Takes a machine past its fork. Its board knows of the steps that the conjuncts made.
-fn rejoin<'a, N: Asked>(load: &mut Carried<'a, N>, outcome: Outcome)
-    requires { (rights : Rights) × (at : Place) × IsJoinedFork N.sites N.root N.run load.old rights at outcome }
-    ensures { (rights : Rights) (at : Place) → IsJoinedFork N.sites N.root N.run load.old rights at outcome → StandsAt N.sites N.root N.run load.new rights (next at) }
+fn rejoin<M: Engine, N: Asked>(progress: &mut Progress<M>, outcome: Outcome)
+    requires { (rights : Rights) × (at : Place) × IsJoinedFork M.Engine N.sites N.root N.run progress.old rights at outcome }
+    ensures { (rights : Rights) (at : Place) → IsJoinedFork M.Engine N.sites N.root N.run progress.old rights at outcome → StandsAt M.Engine N.sites N.root N.run progress.new rights (next at) }
 {
-    let Stop::AtFork(site) = load.stop else {
+    let Stop::AtFork(site) = progress.stop else {
         unreachable!()
     };
-    load.machine.rejoin(site, outcome);
-    load.reported = load.machine.used();
+    progress.machine.rejoin(site, outcome);
+    progress.reported = progress.machine.used();
 }

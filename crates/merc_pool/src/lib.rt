@@ -3,6 +3,7 @@
 
 pub mod desk;
 pub mod ending;
+pub mod engine;
 pub mod forking;
 pub mod hand;
 pub mod load;
@@ -16,6 +17,7 @@ pub mod telling;
 pub mod turn;
 pub mod work;
 
+pub use engine::Engine;
 pub use load::{Asked, Carried};
 pub use merc_machine::Ticks;
 pub use next::Next;

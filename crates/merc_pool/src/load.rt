@@ -1,7 +1,8 @@
 //! What a branch carries: a machine.
 
+use crate::engine::Engine;
 use merc_board::Load;
-use merc_machine::{Machine, Stop, Ticks};
+use merc_machine::{Stop, Ticks};
 use std::marker::PhantomData;
 
 /// What is asked: the script of the goal, what stands at the sites of the program, and the run that is told.
@@ -18,16 +19,22 @@ pub trait Asked {
     ghost run: { Run };
 }
 
-/// A machine on its way through what is asked.
+/// How far a machine has come.
 #[derive(Drop)]
-pub struct Carried<'a, N: Asked> {
-    pub machine: Machine<'a>,
+pub struct Progress<M: Engine> {
+    pub machine: M,
     /// The stop to which the machine came last; at a wait and at a fork it says which.
     pub stop: Stop,
     /// How many answers it has given. Only the root has answers.
     pub given: u64,
     /// How many of the steps that it has made its board was told.
     pub reported: u64,
+}
+
+/// A machine on its way through what is asked.
+#[derive(Drop)]
+pub struct Carried<M: Engine, N: Asked> {
+    pub progress: Progress<M>,
     /// The number of the conjunct that it is until it has entered the gate, then 0.
     pub enters: u32,
     /// The steps that the root's machine has made. Those of others are counted by the workers that make them.
@@ -35,16 +42,16 @@ pub struct Carried<'a, N: Asked> {
     pub asked: PhantomData<N>,
 }
 
-impl<'a, N: Asked> Load for Carried<'a, N> {
+impl<M: Engine, N: Asked> Load for Carried<M, N> {
     ghost use Rattle.merc_pool.specs.Carrying.{StandsAt, AwaitsAt, ForkedAt, IsShown};
 
     ghost root = { N.root };
 
-    ghost stands = { StandsAt N.sites N.root N.run };
+    ghost stands = { λ load. StandsAt M.Engine N.sites N.root N.run load.progress };
 
-    ghost awaits = { AwaitsAt N.sites N.root N.run };
+    ghost awaits = { λ load. AwaitsAt M.Engine N.sites N.root N.run load.progress };
 
-    ghost forked = { ForkedAt N.sites N.root N.run };
+    ghost forked = { λ load. ForkedAt M.Engine N.sites N.root N.run load.progress };
 
     ghost shows = { IsShown N.root };
 }

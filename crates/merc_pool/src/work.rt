@@ -4,6 +4,7 @@ ghost use Rattle.merc_pool.specs.Hands.{IsAllowed, IsAtWork};
 ghost use Rattle.merc_pool.specs.Shares.{AreShares};
 ghost use Rattle.merc_pool.specs.Working.{AllAtWork, AllDone, FoundIs, IsDone};
 
+use crate::engine::Engine;
 use crate::hand::Hand;
 use crate::load::{Asked, Carried};
 use crate::shared::{Shared, Slot, Worker};
@@ -16,16 +17,16 @@ use std::thread;
 use std::thread::Threads;
 
 // Makes a worker's turns until it has the root back, or the run is over.
-fn work<'a, N: Asked + Send, B: Board<Carried<'a, N>>, G: Gate, R: Wait>(
+fn work<M: Engine, N: Asked + Send, B: Board<Carried<M, N>>, G: Gate, R: Wait>(
     rt: &R,
     shared: &Shared<B>,
     gate: &G,
     worker: &mut Worker<B::Seat>,
-    mut hand: Hand<Carried<'a, N>, B::Hold>,
-) -> Hand<Carried<'a, N>, B::Hold>
+    mut hand: Hand<Carried<M, N>, B::Hold>,
+) -> Hand<Carried<M, N>, B::Hold>
     requires sites { AreShares N.sites shared.now.sites.items }
-    requires work { IsAtWork N.Asked B.Board shared.now.board worker.old hand }
-    ensures { IsDone N.Asked B.Board shared.now.board worker.new result }
+    requires work { IsAtWork M.Engine N.Asked B.Board shared.now.board worker.old hand }
+    ensures { IsDone M.Engine N.Asked B.Board shared.now.board worker.new result }
 {
     for _ in rt.forever() {
         hand = match hand {
@@ -45,20 +46,20 @@ fn work<'a, N: Asked + Send, B: Board<Carried<'a, N>>, G: Gate, R: Wait>(
 
 // Looks for a branch until there is one, or the run is over. What was counted before the look is remembered, so that no
 // branch that comes after it is missed.
-fn find<'a, N: Asked + Send, B: Board<Carried<'a, N>>, R: Wait>(
+fn find<M: Engine, N: Asked + Send, B: Board<Carried<M, N>>, R: Wait>(
     rt: &R,
     shared: &Shared<B>,
     worker: &mut Worker<B::Seat>,
-) -> Option<Hand<Carried<'a, N>, B::Hold>>
+) -> Option<Hand<Carried<M, N>, B::Hold>>
     requires free { B.free shared.now.board worker.old.seat }
-    requires allowed { IsAllowed N.Asked B.Board worker.old }
-    ensures { FoundIs N.Asked B.Board shared.now.board worker.new result }
+    requires allowed { IsAllowed M.Engine N.Asked B.Board worker.old }
+    ensures { FoundIs M.Engine N.Asked B.Board shared.now.board worker.new result }
 {
     for _ in rt.forever() {
         let Some(seen) = shared.desk.seen(rt) else {
             return None;
         };
-        match take::<N, B, R>(rt, shared, worker) {
+        match take::<M, N, B, R>(rt, shared, worker) {
             Hand::Empty => shared.desk.wait_past(rt, seen),
             hand => return Some(hand),
         }
@@ -67,15 +68,15 @@ fn find<'a, N: Asked + Send, B: Board<Carried<'a, N>>, R: Wait>(
 }
 
 // The same of a worker with what it has in hand.
-fn work_on<'a, N: Asked + Send, B: Board<Carried<'a, N>>, G: Gate, R: Wait>(
+fn work_on<M: Engine, N: Asked + Send, B: Board<Carried<M, N>>, G: Gate, R: Wait>(
     rt: &R,
     shared: &Shared<B>,
     gate: &G,
-    slot: &mut Slot<Carried<'a, N>, B::Hold, B::Seat, (B::WaitRight, B::SignalRight, B::Children)>,
+    slot: &mut Slot<M, N, B>,
 )
     requires sites { AreShares N.sites shared.now.sites.items }
-    requires work { IsAtWork N.Asked B.Board shared.now.board slot.old.worker slot.old.hand }
-    ensures { IsDone N.Asked B.Board shared.now.board slot.new.worker slot.new.hand }
+    requires work { IsAtWork M.Engine N.Asked B.Board shared.now.board slot.old.worker slot.old.hand }
+    ensures { IsDone M.Engine N.Asked B.Board shared.now.board slot.new.worker slot.new.hand }
 {
     let hand = mem::replace(&mut slot.hand, Hand::Empty);
     slot.hand = work(rt, shared, gate, &mut slot.worker, hand);
@@ -84,30 +85,30 @@ fn work_on<'a, N: Asked + Send, B: Board<Carried<'a, N>>, G: Gate, R: Wait>(
 /// Lets workers run side by side, each in a thread of its own where one can be made, until the root is back. The last one
 /// runs in this thread, before any other for which none can be made.
 pub(crate) fn work_all<
-    'a,
+    M: Engine,
     N: Asked + Send,
-    B: Board<Carried<'a, N>>,
+    B: Board<Carried<M, N>>,
     G: Gate + Sync,
     R: Threads + Wait + Sync,
 >(
     rt: &R,
     shared: &Shared<B>,
     gate: &G,
-    slots: &mut [Slot<Carried<'a, N>, B::Hold, B::Seat, (B::WaitRight, B::SignalRight, B::Children)>],
+    slots: &mut [Slot<M, N, B>],
 )
     requires sites { AreShares N.sites shared.now.sites.items }
-    requires work { AllAtWork N.Asked B.Board shared.now.board slots.old }
+    requires work { AllAtWork M.Engine N.Asked B.Board shared.now.board slots.old }
     requires some { 0 < length slots.old }
-    ensures { AllDone N.Asked B.Board shared.now.board slots.new }
+    ensures { AllDone M.Engine N.Asked B.Board shared.now.board slots.new }
 {
     let count = slots.len();
     thread::for_each_mut(
         rt,
         slots,
         count,
-        &|_, slot: &mut Slot<Carried<'a, N>, B::Hold, B::Seat, (B::WaitRight, B::SignalRight, B::Children)>|
-            requires { AreShares N.sites shared.now.sites.items × IsAtWork N.Asked B.Board shared.now.board slot.now.worker slot.now.hand }
-            ensures { IsDone N.Asked B.Board shared.entry.now.board slot.exit.now.worker slot.exit.now.hand }
+        &|_, slot: &mut Slot<M, N, B>|
+            requires { AreShares N.sites shared.now.sites.items × IsAtWork M.Engine N.Asked B.Board shared.now.board slot.now.worker slot.now.hand }
+            ensures { IsDone M.Engine N.Asked B.Board shared.entry.now.board slot.exit.now.worker slot.exit.now.hand }
         { work_on(rt, shared, gate, slot) },
     );
 }
