@@ -6,3 +6,4 @@ mod Behind
 mod Parents
 mod Lists
 mod Forks
+mod Workers
