@@ -1,11 +1,12 @@
-mod Mapped
-mod SharesMade
-mod BehindForks
-mod Ends
-mod Told
-mod Ran
-mod Living
-mod Meetings
-mod Lists
-mod Forks
-mod TellingExamples
+pub mod BehindForks
+pub mod Ends
+pub mod Forks
+pub mod Lists
+pub mod Living
+pub mod Mapped
+pub mod Meetings
+pub mod Ran
+pub mod SharesMade
+pub mod TellingExamples
+pub mod Told
+pub mod Workers

@@ -85,28 +85,28 @@ module _ {M N H : Type 0} (m : Engine.Ghosts M) where
   IsTalliedAlone (Ends branch outcome) = Unit {0}
   IsTalliedAlone (Came branch stop) = IsTallied (Came branch stop)
 
-module _ {M N B H S W G C : Type 0} (m : Engine.Ghosts M) where
-  abbrev pub IsHomeTallied : Option (Slot M N B H S W G C) → Type 0
+module _ {M N H S P : Type 0} (m : Engine.Ghosts M) where
+  abbrev pub IsHomeTallied : Option (Slot (Carried M N) H S P) → Type 0
   IsHomeTallied None = Unit {0}
   IsHomeTallied (Some slot) = IsTallied m slot.hand
 
-module _ {M N B H S W G C : Type 0} where
-  abbrev pub steps_told : ℕ → Option (Slot M N B H S W G C) → ℕ
+module _ {M N H S P : Type 0} where
+  abbrev pub steps_told : ℕ → Option (Slot (Carried M N) H S P) → ℕ
   steps_told put_by None = put_by
   steps_told put_by (Some slot) = steps_of put_by slot.hand
 
-module _ {M N B H S W G C : Type 0} (m : Engine.Ghosts M) (n : Asked.Ghosts N) (b : Board.Ghosts B (Carried M N) H S W G C) where
+module _ {M N B H S W G C P : Type 0} (m : Engine.Ghosts M) (n : Asked.Ghosts N) (b : Board.Ghosts B (Carried M N) H S W G C) where
   -- the worker that has the root in hand, which has given so many answers
-  abbrev pub IsHome : B → ℕ → Option (Slot M N B H S W G C) → Type 0
+  abbrev pub IsHome : B → ℕ → Option (Slot (Carried M N) H S P) → Type 0
   IsHome board given None = ⊥
   IsHome board given (Some slot) = RootHand m n b board slot.worker.seat slot.hand × HasGiven given slot.hand × IsAllowed m n b slot.worker
 
   -- the one that has the root, which has come to a stop
-  abbrev pub IsBack : B → Slot M N B H S W G C → Type 0
+  abbrev pub IsBack : B → Slot (Carried M N) H S P → Type 0
   IsBack board slot = BackHand m n b board slot.worker.seat slot.hand × IsAllowed m n b slot.worker
 
   -- Behind an answer the worker has the root in hand.
-  abbrev pub IsToldHome : B → ℕ → Next → Slot M N B H S W G C → Type 0
+  abbrev pub IsToldHome : B → ℕ → Next → Slot (Carried M N) H S P → Type 0
   IsToldHome board given (Answer block) slot = IsHome board (suc given) (Some slot)
   IsToldHome board given Done slot = Unit {0}
   IsToldHome board given (Raised text) slot = Unit {0}
@@ -114,7 +114,7 @@ module _ {M N B H S W G C : Type 0} (m : Engine.Ghosts M) (n : Asked.Ghosts N) (
   IsToldHome board given NoMemory slot = Unit {0}
 
   -- A session that has given so many answers, and has no end that it tells again.
-  pub record IsSession (shared : Shared B) (others : List (Slot M N B H S W G C)) (len room : ℕ) (home : Option (Slot M N B H S W G C)) (over : Option Stop) (given : ℕ) : Type 0 where
+  pub record IsSession (shared : Shared B) (others : List (Slot (Carried M N) H S P)) (len room : ℕ) (home : Option (Slot (Carried M N) H S P)) (over : Option Stop) (given : ℕ) : Type 0 where
     pub sites : AreShares n.sites shared.sites.items
     pub others_work : AllAtWork m n b shared.board others
     pub ready : over ≡ None → IsHome shared.board given home × (len < room)

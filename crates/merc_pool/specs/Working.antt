@@ -27,9 +27,24 @@ module _ {M N B H S W G C : Type 0} (m : Engine.Ghosts M) (n : Asked.Ghosts N) (
   abbrev pub IsDone : B → Worker S → Hand (Carried M N) H → Type 0
   IsDone board worker hand = DoneHand board worker.seat hand × IsAllowed m n b worker
 
-module _ {M N B H S W G C : Type 0} (m : Engine.Ghosts M) (n : Asked.Ghosts N) (b : Board.Ghosts B (Carried M N) H S W G C) where
-  abbrev pub AllAtWork : B → List (Slot M N B H S W G C) → Type 0
-  AllAtWork board slots = (i : ℕ) (slot : Slot M N B H S W G C) → slice_get slots i ≡ Some slot → IsAtWork m n b board slot.worker slot.hand
+  -- The same, told by what the worker has in hand.
+  abbrev pub WorksWith : B → Worker S → Hand (Carried M N) H → Type 0
+  WorksWith board worker Empty = IsAtWork m n b board worker Empty
+  WorksWith board worker (Runs branch) = IsAtWork m n b board worker (Runs branch)
+  WorksWith board worker (Given branch value) = IsAtWork m n b board worker (Given branch value)
+  WorksWith board worker (Ends branch outcome) = IsAtWork m n b board worker (Ends branch outcome)
+  WorksWith board worker (Came branch stop) = IsAtWork m n b board worker (Came branch stop)
 
-  abbrev pub AllDone : B → List (Slot M N B H S W G C) → Type 0
-  AllDone board slots = (i : ℕ) (slot : Slot M N B H S W G C) → slice_get slots i ≡ Some slot → IsDone m n b board slot.worker slot.hand
+  abbrev pub DoneWith : B → Worker S → Hand (Carried M N) H → Type 0
+  DoneWith board worker Empty = IsDone board worker Empty
+  DoneWith board worker (Runs branch) = IsDone board worker (Runs branch)
+  DoneWith board worker (Given branch value) = IsDone board worker (Given branch value)
+  DoneWith board worker (Ends branch outcome) = IsDone board worker (Ends branch outcome)
+  DoneWith board worker (Came branch stop) = IsDone board worker (Came branch stop)
+
+module _ {M N B H S W G C P : Type 0} (m : Engine.Ghosts M) (n : Asked.Ghosts N) (b : Board.Ghosts B (Carried M N) H S W G C) where
+  abbrev pub AllAtWork : B → List (Slot (Carried M N) H S P) → Type 0
+  AllAtWork board slots = (i : ℕ) (slot : Slot (Carried M N) H S P) → slice_get slots i ≡ Some slot → WorksWith m n b board slot.worker slot.hand
+
+  abbrev pub AllDone : B → List (Slot (Carried M N) H S P) → Type 0
+  AllDone board slots = (i : ℕ) (slot : Slot (Carried M N) H S P) → slice_get slots i ≡ Some slot → DoneWith m n b board slot.worker slot.hand

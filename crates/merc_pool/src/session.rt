@@ -42,9 +42,9 @@ const ALONE: u32 = u32::MAX;
 pub struct Session<M: Engine, N: Asked + Send, B: Board<Carried<M, N>>> {
     shared: Shared<B>,
     // workers that have nothing in hand
-    others: Vec<Slot<M, N, B>>,
+    others: Vec<Slot<Carried<M, N>, B::Hold, B::Seat, (B::WaitRight, B::SignalRight, B::Children)>>,
     // the worker that has the root
-    home: Option<Slot<M, N, B>>,
+    home: Option<Slot<Carried<M, N>, B::Hold, B::Seat, (B::WaitRight, B::SignalRight, B::Children)>>,
     over: Option<Stop>,
     given: u64,
     // the steps of the root, once it has ended
@@ -151,7 +151,7 @@ impl<M: Engine, N: Asked + Send, B: Board<Carried<M, N>>> Session<M, N, B> {
 // Takes over what a worker has counted, and what the root has that it has in hand.
 fn count_slot<M: Engine, N: Asked + Send, B: Board<Carried<M, N>>>(
     into: &mut Ticks,
-    slot: Slot<M, N, B>,
+    slot: Slot<Carried<M, N>, B::Hold, B::Seat, (B::WaitRight, B::SignalRight, B::Children)>,
 )
     ensures { counted into.old (steps_of 0 slot.hand) ≤ into.new }
 {
@@ -168,7 +168,7 @@ fn count_slot<M: Engine, N: Asked + Send, B: Board<Carried<M, N>>>(
 fn slot_of<M: Engine, N: Asked + Send, B: Board<Carried<M, N>>>(
     seat: B::Seat,
     hand: Hand<Carried<M, N>, B::Hold>,
-) -> Slot<M, N, B>
+) -> Slot<Carried<M, N>, B::Hold, B::Seat, (B::WaitRight, B::SignalRight, B::Children)>
     ensures { (result.worker.seat ≡ seat) × (result.worker.may_run ≡ false) × (result.hand ≡ hand) }
 {
     Slot {
@@ -178,6 +178,7 @@ fn slot_of<M: Engine, N: Asked + Send, B: Board<Carried<M, N>>>(
             may_run: false,
         },
         hand,
+        kinds: PhantomData,
     }
 }
 
@@ -192,13 +193,13 @@ fn run_on<
     rt: &R,
     gate: &G,
     shared: &Shared<B>,
-    others: &mut Vec<Slot<M, N, B>>,
+    others: &mut Vec<Slot<Carried<M, N>, B::Hold, B::Seat, (B::WaitRight, B::SignalRight, B::Children)>>,
     given: &mut u64,
     ticks: &mut Ticks,
-    home: Slot<M, N, B>,
+    home: Slot<Carried<M, N>, B::Hold, B::Seat, (B::WaitRight, B::SignalRight, B::Children)>,
 ) -> (
     Next,
-    Option<Slot<M, N, B>>,
+    Option<Slot<Carried<M, N>, B::Hold, B::Seat, (B::WaitRight, B::SignalRight, B::Children)>>,
 )
     requires sites { AreShares N.sites shared.now.sites.items }
     requires others { AllAtWork M.Engine N.Asked B.Board shared.now.board others.old.items }
@@ -275,9 +276,9 @@ fn run_root<
     rt: &R,
     shared: &Shared<B>,
     gate: &G,
-    others: &mut Vec<Slot<M, N, B>>,
-    mut home: Slot<M, N, B>,
-) -> Option<Slot<M, N, B>>
+    others: &mut Vec<Slot<Carried<M, N>, B::Hold, B::Seat, (B::WaitRight, B::SignalRight, B::Children)>>,
+    mut home: Slot<Carried<M, N>, B::Hold, B::Seat, (B::WaitRight, B::SignalRight, B::Children)>,
+) -> Option<Slot<Carried<M, N>, B::Hold, B::Seat, (B::WaitRight, B::SignalRight, B::Children)>>
     requires sites { AreShares N.sites shared.now.sites.items }
     requires others { AllAtWork M.Engine N.Asked B.Board shared.now.board others.old.items }
     requires room { vec_len others.old < vec_capacity others.old }
@@ -311,8 +312,8 @@ fn run_root<
 
 // Takes the worker out that has the root.
 fn take_back<M: Engine, N: Asked + Send, B: Board<Carried<M, N>>>(
-    slots: &mut Vec<Slot<M, N, B>>,
-) -> Option<Slot<M, N, B>>
+    slots: &mut Vec<Slot<Carried<M, N>, B::Hold, B::Seat, (B::WaitRight, B::SignalRight, B::Children)>>,
+) -> Option<Slot<Carried<M, N>, B::Hold, B::Seat, (B::WaitRight, B::SignalRight, B::Children)>>
     requires { (board : B) × AllDone M.Engine N.Asked B.Board board slots.old.items }
     ensures others { (board : B) → AllDone M.Engine N.Asked B.Board board slots.old.items → AllAtWork M.Engine N.Asked B.Board board slots.new.items }
     ensures room { IfSome result (λ _. (vec_len slots.new < vec_len slots.old) × (vec_capacity slots.new ≡ vec_capacity slots.old)) }
@@ -340,7 +341,7 @@ fn is_back<L: Drop, H: Drop>(hand: &Hand<L, H>) -> bool
 fn idle_slots<M: Engine, N: Asked + Send, B: Board<Carried<M, N>>>(
     alloc: Global,
     mut seats: Vec<B::Seat>,
-) -> Result<Vec<Slot<M, N, B>>, NoMemory>
+) -> Result<Vec<Slot<Carried<M, N>, B::Hold, B::Seat, (B::WaitRight, B::SignalRight, B::Children)>>, NoMemory>
     requires { (board : B) × All (B.free board) seats.items }
     ensures room { IfOk result (λ slots. vec_len slots < vec_capacity slots) }
     ensures work { IfOk result (λ slots. (board : B) → All (B.free board) seats.items → AllAtWork M.Engine N.Asked B.Board board slots.items) }

@@ -1,13 +1,11 @@
 //! What the workers of a session share, and what each has of its own.
 
-use crate::engine::Engine;
 use crate::desk::Desk;
 use crate::hand::Hand;
-use crate::load::{Asked, Carried};
 use crate::shares::Share;
-use merc_board::Board;
 use merc_machine::Ticks;
 use std::alloc::Global;
+use std::marker::PhantomData;
 
 /// What the workers share.
 #[derive(Drop)]
@@ -27,9 +25,11 @@ pub struct Worker<S: Drop> {
     pub may_run: bool,
 }
 
-/// A worker with what it has in hand.
+/// A worker with what it has in hand. `P` names the further types of its board: a closure that runs over slots in threads gets
+/// its proof only where its own types name all of these.
 #[derive(Drop)]
-pub struct Slot<M: Engine, N: Asked, B: Board<Carried<M, N>>> {
-    pub worker: Worker<B::Seat>,
-    pub hand: Hand<Carried<M, N>, B::Hold>,
+pub struct Slot<L: Drop, H: Drop, S: Drop, P: Drop> {
+    pub worker: Worker<S>,
+    pub hand: Hand<L, H>,
+    pub kinds: PhantomData<P>,
 }

@@ -24,7 +24,7 @@ pub(crate) fn tell<M: Engine, N: Asked + Send, B: Board<Carried<M, N>>>(
     alloc: Global,
     given: &mut u64,
     ticks: &mut Ticks,
-    slot: &mut Slot<M, N, B>,
+    slot: &mut Slot<Carried<M, N>, B::Hold, B::Seat, (B::WaitRight, B::SignalRight, B::Children)>,
 ) -> Next
     requires { (board : B) × IsBack M.Engine N.Asked B.Board board slot.old }
     ensures next { NextIs N.run given.old result }

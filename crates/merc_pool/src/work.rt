@@ -2,7 +2,7 @@
 ghost use Rattle.std.specs.Prelude.{◌<◌, length};
 ghost use Rattle.merc_pool.specs.Hands.{IsAllowed, IsAtWork};
 ghost use Rattle.merc_pool.specs.Shares.{AreShares};
-ghost use Rattle.merc_pool.specs.Working.{AllAtWork, AllDone, FoundIs, IsDone};
+ghost use Rattle.merc_pool.specs.Working.{AllAtWork, AllDone, DoneWith, FoundIs, IsDone, WorksWith};
 
 use crate::engine::Engine;
 use crate::hand::Hand;
@@ -72,11 +72,11 @@ fn work_on<M: Engine, N: Asked + Send, B: Board<Carried<M, N>>, G: Gate, R: Wait
     rt: &R,
     shared: &Shared<B>,
     gate: &G,
-    slot: &mut Slot<M, N, B>,
+    slot: &mut Slot<Carried<M, N>, B::Hold, B::Seat, (B::WaitRight, B::SignalRight, B::Children)>,
 )
     requires sites { AreShares N.sites shared.now.sites.items }
-    requires work { IsAtWork M.Engine N.Asked B.Board shared.now.board slot.old.worker slot.old.hand }
-    ensures { IsDone M.Engine N.Asked B.Board shared.now.board slot.new.worker slot.new.hand }
+    requires work { WorksWith M.Engine N.Asked B.Board shared.now.board slot.old.worker slot.old.hand }
+    ensures { DoneWith M.Engine N.Asked B.Board shared.now.board slot.new.worker slot.new.hand }
 {
     let hand = mem::replace(&mut slot.hand, Hand::Empty);
     slot.hand = work(rt, shared, gate, &mut slot.worker, hand);
@@ -94,7 +94,7 @@ pub(crate) fn work_all<
     rt: &R,
     shared: &Shared<B>,
     gate: &G,
-    slots: &mut [Slot<M, N, B>],
+    slots: &mut [Slot<Carried<M, N>, B::Hold, B::Seat, (B::WaitRight, B::SignalRight, B::Children)>],
 )
     requires sites { AreShares N.sites shared.now.sites.items }
     requires work { AllAtWork M.Engine N.Asked B.Board shared.now.board slots.old }
@@ -106,9 +106,9 @@ pub(crate) fn work_all<
         rt,
         slots,
         count,
-        &|_, slot: &mut Slot<M, N, B>|
-            requires { AreShares N.sites shared.now.sites.items × IsAtWork M.Engine N.Asked B.Board shared.now.board slot.now.worker slot.now.hand }
-            ensures { IsDone M.Engine N.Asked B.Board shared.entry.now.board slot.exit.now.worker slot.exit.now.hand }
+        &|_, slot: &mut Slot<Carried<M, N>, B::Hold, B::Seat, (B::WaitRight, B::SignalRight, B::Children)>|
+            requires { AreShares N.sites shared.now.sites.items × WorksWith M.Engine N.Asked B.Board shared.now.board slot.now.worker slot.now.hand }
+            ensures { DoneWith M.Engine N.Asked B.Board shared.entry.now.board slot.exit.now.worker slot.exit.now.hand }
         { work_on(rt, shared, gate, slot) },
     );
 }
