@@ -6,3 +6,6 @@ mod Behind
 mod Parents
 mod Lists
 mod Forks
+mod Slots
+mod Counters
+mod Begun
