@@ -6,10 +6,8 @@ use Rattle.merc_pool.specs.declared.load.Asked as Asked
 use Rattle.merc_pool.specs.declared.load.Carried.{Carried}
 use Rattle.merc_pool.specs.declared.hand.Hand.{Hand}
 use Rattle.merc_pool.specs.declared.hand.Hand.TheVariants.{Empty, Runs, Given, Ends, Came}
-use Rattle.merc_pool.specs.declared.shared.Shared.{Shared}
 use Rattle.merc_pool.specs.declared.shared.Slot.{Slot}
 use Rattle.merc_pool.specs.declared.shared.Worker.{Worker}
-use Rattle.merc_pool.specs.Shares.{AreShares}
 use Rattle.merc_pool.specs.Hands.{CameTo, IsAllowed, IsAtWork}
 
 module _ {M N B H S W G C : Type 0} (m : Engine.Ghosts M) (n : Asked.Ghosts N) (b : Board.Ghosts B (Carried M N) H S W G C) where
@@ -30,13 +28,6 @@ module _ {M N B H S W G C : Type 0} (m : Engine.Ghosts M) (n : Asked.Ghosts N) (
   IsDone board worker hand = DoneHand board worker.seat hand × IsAllowed m n b worker
 
 module _ {M N B H S W G C : Type 0} (m : Engine.Ghosts M) (n : Asked.Ghosts N) (b : Board.Ghosts B (Carried M N) H S W G C) where
-  -- a worker has nothing in hand that is not known, and all know what stands at the sites
-  abbrev pub IsSlotAtWork : Shared B → Slot M N B H S W G C → Type 0
-  IsSlotAtWork shared slot = AreShares n.sites shared.sites.items × IsAtWork m n b shared.board slot.worker slot.hand
-
-  abbrev pub IsSlotDone : Shared B → Slot M N B H S W G C → Type 0
-  IsSlotDone shared slot = IsDone m n b shared.board slot.worker slot.hand
-
   abbrev pub AllAtWork : B → List (Slot M N B H S W G C) → Type 0
   AllAtWork board slots = (i : ℕ) (slot : Slot M N B H S W G C) → slice_get slots i ≡ Some slot → IsAtWork m n b board slot.worker slot.hand
 

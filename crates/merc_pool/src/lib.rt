@@ -1,7 +1,6 @@
 //! Sessions: the answers of what is asked, one after the other, by workers over a board.
 #![tactic(auto)]
 
-pub mod crew;
 pub mod desk;
 pub mod ending;
 pub mod engine;

@@ -23,7 +23,7 @@ use crate::shared::{Shared, Slot, Worker};
 use crate::shares::shares_of;
 use crate::telling::tell;
 use crate::turn::report;
-use crate::crew::work_all;
+use crate::work::work_all;
 use merc_base::{Gate, NoMemory};
 use merc_board::{Board, Opened};
 use merc_machine::{Stop, Ticks};

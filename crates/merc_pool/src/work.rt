@@ -1,18 +1,20 @@
-//! The work of one worker.
+//! Workers, each in a thread of its own where one can be made.
+ghost use Rattle.std.specs.Prelude.{◌<◌, length};
 ghost use Rattle.merc_pool.specs.Hands.{IsAllowed, IsAtWork};
 ghost use Rattle.merc_pool.specs.Shares.{AreShares};
-ghost use Rattle.merc_pool.specs.Working.{FoundIs, IsDone};
+ghost use Rattle.merc_pool.specs.Working.{AllAtWork, AllDone, FoundIs, IsDone};
 
 use crate::engine::Engine;
 use crate::hand::Hand;
 use crate::load::{Asked, Carried};
 use crate::shared::{Shared, Slot, Worker};
-use crate::crew::Works;
 use crate::turn::{take, turn};
 use merc_base::Gate;
 use merc_board::Board;
 use std::mem;
 use std::sync::Wait;
+use std::thread;
+use std::thread::Threads;
 
 // Makes a worker's turns until it has the root back, or the run is over.
 fn work<M: Engine, N: Asked + Send, B: Board<Carried<M, N>>, G: Gate, R: Wait>(
@@ -65,17 +67,48 @@ fn find<M: Engine, N: Asked + Send, B: Board<Carried<M, N>>, R: Wait>(
     unreachable!()
 }
 
-impl<M: Engine, N: Asked + Send, B: Board<Carried<M, N>>, G: Gate> Works<Shared<B>, G>
-    for Slot<M, N, B>
+// The same of a worker with what it has in hand.
+fn work_on<M: Engine, N: Asked + Send, B: Board<Carried<M, N>>, G: Gate, R: Wait>(
+    rt: &R,
+    shared: &Shared<B>,
+    gate: &G,
+    slot: &mut Slot<M, N, B>,
+)
+    requires sites { AreShares N.sites shared.now.sites.items }
+    requires work { IsAtWork M.Engine N.Asked B.Board shared.now.board slot.old.worker slot.old.hand }
+    ensures { IsDone M.Engine N.Asked B.Board shared.now.board slot.new.worker slot.new.hand }
 {
-    ghost use Rattle.merc_pool.specs.Working.{IsSlotAtWork, IsSlotDone};
+    let hand = mem::replace(&mut slot.hand, Hand::Empty);
+    slot.hand = work(rt, shared, gate, &mut slot.worker, hand);
+}
 
-    ghost ready = { IsSlotAtWork M.Engine N.Asked B.Board };
-
-    ghost done = { IsSlotDone M.Engine N.Asked B.Board };
-
-    fn work_on<R: Wait>(&mut self, rt: &R, shared: &Shared<B>, gate: &G) {
-        let hand = mem::replace(&mut self.hand, Hand::Empty);
-        self.hand = work(rt, shared, gate, &mut self.worker, hand);
-    }
+/// Lets workers run side by side, each in a thread of its own where one can be made, until the root is back. The last one
+/// runs in this thread, before any other for which none can be made.
+pub(crate) fn work_all<
+    M: Engine,
+    N: Asked + Send,
+    B: Board<Carried<M, N>>,
+    G: Gate + Sync,
+    R: Threads + Wait + Sync,
+>(
+    rt: &R,
+    shared: &Shared<B>,
+    gate: &G,
+    slots: &mut [Slot<M, N, B>],
+)
+    requires sites { AreShares N.sites shared.now.sites.items }
+    requires work { AllAtWork M.Engine N.Asked B.Board shared.now.board slots.old }
+    requires some { 0 < length slots.old }
+    ensures { AllDone M.Engine N.Asked B.Board shared.now.board slots.new }
+{
+    let count = slots.len();
+    thread::for_each_mut(
+        rt,
+        slots,
+        count,
+        &|_, slot: &mut Slot<M, N, B>|
+            requires { AreShares N.sites shared.now.sites.items × IsAtWork M.Engine N.Asked B.Board shared.now.board slot.now.worker slot.now.hand }
+            ensures { IsDone M.Engine N.Asked B.Board shared.entry.now.board slot.exit.now.worker slot.exit.now.hand }
+        { work_on(rt, shared, gate, slot) },
+    );
 }

@@ -5,5 +5,5 @@ returns-in-SliceOver g c = let come = rw c.in-SliceOver.is at c.requires.come in
 
 pub returns-in_default : goal.returns-in_default
 returns-in_default g c =
-    let come = rw c.in_default.stop-is at c.requires.come in
+    let come = c.requires.come in
     (c.stopped.ensures c.args.shared.now.board c.args.worker.now.seat come, c.requires.allowed)
