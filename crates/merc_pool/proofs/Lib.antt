@@ -1,12 +1,15 @@
-pub mod BehindForks
-pub mod Ends
-pub mod Forks
-pub mod Lists
-pub mod Living
-pub mod Mapped
-pub mod Meetings
-pub mod Ran
-pub mod SharesMade
-pub mod TellingExamples
-pub mod Told
-pub mod Workers
+mod Begun
+mod BehindForks
+mod Counters
+mod Ends
+mod Forks
+mod Lists
+mod Living
+mod Mapped
+mod Meetings
+mod Ran
+mod SharesMade
+mod Slots
+mod TellingExamples
+mod Told
+mod Workers

@@ -1,6 +1,7 @@
 //! A session: the answers of what is asked, one after the other.
 ghost use Rattle.std.specs.Prelude.{◌≡◌, ◌<◌, ◌≤◌, true, false, All, IfOk, IfSome, None, Some, vec_capacity, vec_len};
 ghost use Rattle.merc_machine.specs.declared.running.Stop.{Stop};
+ghost use Rattle.merc_machine.specs.declared.running.Stop.TheVariants.{NoMemory as NoMemoryStop};
 ghost use Rattle.merc_meaning.specs.Counting.{counted};
 ghost use Rattle.merc_pool.specs.Asking.{Asks};
 ghost use Rattle.merc_pool.specs.Carrying.{IsPlain};
@@ -128,23 +129,45 @@ impl<M: Engine, N: Asked + Send, B: Board<Carried<M, N>>> Session<M, N, B> {
         next
     }
 
-    /// Ends a session, and counts the steps that its workers have made. Takes no memory.
-    pub fn close(self, into: &mut Ticks)
-        ensures { counted into.old self.steps ≤ into.new }
+    /// Ends a session, and counts the steps that its workers have made. Takes no memory. From then on it says that memory
+    /// was refused.
+    pub fn close(&mut self, into: &mut Ticks)
+        ensures counted { counted into.old self.old.steps ≤ into.new }
+        ensures over { self.new.over ≡ Some NoMemoryStop }
+        ensures given { self.new.given ≡ self.old.given }
     {
-        let Session {
-            others,
-            home,
-            mut ticks,
-            ..
-        } = self;
-        into.take_in(&mut ticks);
-        if let Some(slot) = home {
-            count_slot::<M, N, B>(into, slot);
-        }
-        for slot in others {
-            count_slot::<M, N, B>(into, slot);
-        }
+        self.over = Some(Stop::NoMemory);
+        let home = self.home.take();
+        let none = Vec::new(self.shared.alloc);
+        let others = mem::replace(&mut self.others, none);
+        count_home::<M, N, B>(into, &mut self.ticks, home);
+        count_all::<M, N, B>(into, others);
+    }
+}
+
+// Takes over what the root has counted: what was put by, and what the worker has that has it in hand.
+fn count_home<M: Engine, N: Asked + Send, B: Board<Carried<M, N>>>(
+    into: &mut Ticks,
+    put_by: &mut Ticks,
+    home: Option<Slot<M, N, B>>,
+)
+    ensures { counted into.old (steps_told put_by.old home) ≤ into.new }
+{
+    into.take_in(put_by);
+    if let Some(slot) = home {
+        count_slot::<M, N, B>(into, slot);
+    }
+}
+
+// Takes over what workers have counted.
+fn count_all<M: Engine, N: Asked + Send, B: Board<Carried<M, N>>>(
+    into: &mut Ticks,
+    slots: Vec<Slot<M, N, B>>,
+)
+    ensures { into.old ≤ into.new }
+{
+    for slot in slots {
+        count_slot::<M, N, B>(into, slot);
     }
 }
 

@@ -1,0 +1,56 @@
+-- Workers with nothing in hand, and workers that have left their work.
+use Rattle.std.proofs.Common.{◌≡◌, ℕ, Bool, true, false, List, [], ◌++◌, ◌∷◌, Some, slice_get, refl, sym, subst}
+use Rattle.merc_board.specs.declared.board.Board as Board
+use Rattle.merc_pool.specs.declared.engine.Engine as Engine
+use Rattle.merc_pool.specs.declared.load.Asked as Asked
+use Rattle.merc_pool.specs.declared.load.Carried.{Carried}
+use Rattle.merc_pool.specs.declared.hand.Hand.{Hand}
+use Rattle.merc_pool.specs.declared.hand.Hand.TheVariants.{Empty, Runs, Given, Ends, Came}
+use Rattle.merc_pool.specs.declared.shared.Slot.{Slot}
+use Rattle.merc_pool.specs.declared.shared.Worker.{Worker}
+use Rattle.merc_pool.specs.Hands.{HandIs, IsAllowed, IsAtWork}
+use Rattle.merc_pool.specs.Sessions.{BackHand, IsBack, IsCame}
+use Rattle.merc_pool.specs.Working.{AllAtWork, AllDone, DoneHand, IsDone}
+use Rattle.merc_pool.proofs.Lists.{all_and_one, at_get, get_same, none_get, without_one}
+
+module _ {M N B H S W G C : Type 0} (m : Engine.Ghosts M) (n : Asked.Ghosts N) (b : Board.Ghosts B (Carried M N) H S W G C) where
+  not_allowed : (worker : Worker S) → worker.may_run ≡ false → IsAllowed m n b worker
+  not_allowed worker none = λ may. absurd cc
+
+  empty_is : (board : B) (seat : S) (hand : Hand (Carried M N) H) → hand ≡ Empty → b.free board seat → HandIs m n b board seat hand
+  empty_is board seat Empty is free = free
+  empty_is board seat (Runs branch) is free = absurd cc
+  empty_is board seat (Given branch value) is free = absurd cc
+  empty_is board seat (Ends branch outcome) is free = absurd cc
+  empty_is board seat (Came branch stop) is free = absurd cc
+
+  pub idle : (board : B) (seat : S) (worker : Worker S) (hand : Hand (Carried M N) H) → worker.seat ≡ seat → worker.may_run ≡ false → hand ≡ Empty → b.free board seat
+      → IsAtWork m n b board worker hand
+  idle board seat worker hand same none empty free = (empty_is board worker.seat hand empty (subst (λ s. b.free board s) (sym same) free), not_allowed worker none)
+
+  done_holds : (board : B) (seat : S) (hand : Hand (Carried M N) H) → DoneHand m n b board seat hand → HandIs m n b board seat hand
+  done_holds board seat Empty done = done
+  done_holds board seat (Runs branch) done = absurd done
+  done_holds board seat (Given branch value) done = absurd done
+  done_holds board seat (Ends branch outcome) done = absurd done
+  done_holds board seat (Came branch stop) done = done
+
+  done_back : (board : B) (seat : S) (hand : Hand (Carried M N) H) → IsCame hand → DoneHand m n b board seat hand → BackHand m n b board seat hand
+  done_back board seat Empty came done = absurd came
+  done_back board seat (Runs branch) came done = absurd came
+  done_back board seat (Given branch value) came done = absurd came
+  done_back board seat (Ends branch outcome) came done = absurd came
+  done_back board seat (Came branch stop) came done = done
+
+  pub done_at_work : (board : B) (slot : Slot M N B H S W G C) → IsDone m n b board slot.worker slot.hand → IsAtWork m n b board slot.worker slot.hand
+  done_at_work board slot done = (done_holds board slot.worker.seat slot.hand done.0, done.1)
+
+  pub is_back_done : (board : B) (slot : Slot M N B H S W G C) → IsCame slot.hand → IsDone m n b board slot.worker slot.hand → IsBack m n b board slot
+  is_back_done board slot came done = (done_back board slot.worker.seat slot.hand came done.0, done.1)
+
+  pub none_at_work : (board : B) → AllAtWork m n b board []
+  none_at_work board i slot at = none_get i slot at
+
+  pub one_at_work : (board : B) (slots : List (Slot M N B H S W G C)) (slot : Slot M N B H S W G C) → AllAtWork m n b board slots → IsAtWork m n b board slot.worker slot.hand
+      → AllAtWork m n b board (slots ++ slot ∷ [])
+  one_at_work board slots slot all one = all_and_one (λ (s : Slot M N B H S W G C). IsAtWork m n b board s.worker s.hand) slots slot all one
