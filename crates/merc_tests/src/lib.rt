@@ -22,3 +22,5 @@ mod outside;
 mod rights;
 #[cfg(test)]
 mod sparks;
+#[cfg(test)]
+mod taps;
