@@ -81,10 +81,10 @@ has_front plan site xs ys h number info e = h number info (slice_front xs ys num
 pub has_back : (plan : Plan) (site count : ℕ) (xs ys : List SiteInfo) → length xs ≡ count → HasSites plan site (xs ++ ys) → HasSites plan (site + count) ys
 has_back plan site count xs ys l h number info e = ap plan (plus_both site count (length xs) number l) ∙ h (length xs + number) info (slice_back xs ys number info e)
 
-first_site : (plan : Plan) (site : ℕ) (first : SiteInfo) (infos : List SiteInfo) → HasSites plan site (first ∷ infos) → plan site ≡ Some first
+pub first_site : (plan : Plan) (site : ℕ) (first : SiteInfo) (infos : List SiteInfo) → HasSites plan site (first ∷ infos) → plan site ≡ Some first
 first_site plan site first infos h = ap plan (plus_none site) ∙ h 0 first refl
 
-more_sites : (plan : Plan) (site : ℕ) (first : SiteInfo) (infos : List SiteInfo) → HasSites plan site (first ∷ infos) → HasSites plan (suc site) infos
+pub more_sites : (plan : Plan) (site : ℕ) (first : SiteInfo) (infos : List SiteInfo) → HasSites plan site (first ∷ infos) → HasSites plan (suc site) infos
 more_sites plan site first infos h number info e = ap plan (plus_suc site number) ∙ h (suc number) info e
 
 -- waiting for each of some variables

@@ -30,11 +30,11 @@ use Rattle.merc_plan.proofs.Numbering.{IsHeld, numbered_formed}
 use Rattle.merc_plan.proofs.PlaysNodes.{node_plays}
 use Rattle.merc_plan.proofs.Standing.{IfFine, IsGiven, IfGiven, kid_scripts, fork_cells, Valued, AllValued, script-closed, valued-closed}
 
-all-front : {A : Type 0} (P : A → Type 0) (xs ys : List A) → AllByRecursion P (xs ++ ys) → AllByRecursion P xs
+pub all-front : {A : Type 0} (P : A → Type 0) (xs ys : List A) → AllByRecursion P (xs ++ ys) → AllByRecursion P xs
 all-front P [] ys a = tt
 all-front P (x ∷ xs) ys a = (a.0, all-front P xs ys a.1)
 
-all-back : {A : Type 0} (P : A → Type 0) (xs ys : List A) → AllByRecursion P (xs ++ ys) → AllByRecursion P ys
+pub all-back : {A : Type 0} (P : A → Type 0) (xs ys : List A) → AllByRecursion P (xs ++ ys) → AllByRecursion P ys
 all-back P [] ys a = a
 all-back P (x ∷ xs) ys a = all-back P xs ys a.1
 
@@ -48,11 +48,11 @@ module _ (values : ℕ → Option Value) where
   abbrev pub AreSame : (ℕ → Option Value) → (ℕ → ℕ) → List ℕ → List ℕ → Type 0
   AreSame value numbers signals waits = (c : ℕ) → IsHeld signals waits c → values (numbers c) ≡ value c
 
-  fewer-waits : (value : ℕ → Option Value) (numbers : ℕ → ℕ) (signals waits gone : List ℕ) → AreSame value numbers signals waits → AreSame value numbers signals (without gone waits)
+  pub fewer-waits : (value : ℕ → Option Value) (numbers : ℕ → ℕ) (signals waits gone : List ℕ) → AreSame value numbers signals waits → AreSame value numbers signals (without gone waits)
   fewer-waits value numbers signals waits gone same c (inl h) = same c (inl h)
   fewer-waits value numbers signals waits gone same c (inr h) = same c (inr (without_in c gone waits h).0)
 
-  fewer-signals : (value : ℕ → Option Value) (numbers : ℕ → ℕ) (signals waits gone : List ℕ) → AreSame value numbers signals waits → AreSame value numbers (without gone signals) waits
+  pub fewer-signals : (value : ℕ → Option Value) (numbers : ℕ → ℕ) (signals waits gone : List ℕ) → AreSame value numbers signals waits → AreSame value numbers (without gone signals) waits
   fewer-signals value numbers signals waits gone same c (inl h) = same c (inl (without_in c gone signals h).0)
   fewer-signals value numbers signals waits gone same c (inr h) = same c (inr h)
 
@@ -73,7 +73,7 @@ module _ (values : ℕ → Option Value) where
     by-test false e = ap values (with_old cells first numbers c e) ∙ same e
 
   -- so it is for the rights of a conjunct, and for those behind the fork
-  own-or-moved : (value : ℕ → Option Value) (numbers : ℕ → ℕ) (signals waits : List ℕ) → AreSame value numbers signals waits → (s l k : ℕ) (cells : List Cell) (moves : List Move) (n first : ℕ)
+  pub own-or-moved : (value : ℕ → Option Value) (numbers : ℕ → ℕ) (signals waits : List ℕ) → AreSame value numbers signals waits → (s l k : ℕ) (cells : List Cell) (moves : List Move) (n first : ℕ)
       → HaveValues (map (renamed_cell (with_numbers cells first numbers)) cells) → ForkFits s signals waits l cells moves n → NamesFit signals cells moves
       → AreSame (told_values value cells) (with_numbers cells first numbers) (signals_at k cells moves) (waits_at k cells moves)
   own-or-moved value numbers signals waits same s l k cells moves n first a fits named c held = told-so value numbers cells first a c (by-kind held) where
@@ -87,7 +87,7 @@ module _ (values : ℕ → Option Value) where
       | inr i ↦ same c (inr (moved_to_old n signals waits (numbers_of cells) k false c moves fits.each_move named.fresh i).0)
     ]
 
-  own-or-kept : (value : ℕ → Option Value) (numbers : ℕ → ℕ) (signals waits : List ℕ) → AreSame value numbers signals waits → (cells : List Cell) (moves : List Move) (first : ℕ)
+  pub own-or-kept : (value : ℕ → Option Value) (numbers : ℕ → ℕ) (signals waits : List ℕ) → AreSame value numbers signals waits → (cells : List Cell) (moves : List Move) (first : ℕ)
       → HaveValues (map (renamed_cell (with_numbers cells first numbers)) cells)
       → AreSame (told_values value cells) (with_numbers cells first numbers) (signals_behind signals moves) (used_by 0 cells ++ without (numbers_of cells) (without (moved false moves) waits))
   own-or-kept value numbers signals waits same cells moves first a c held = told-so value numbers cells first a c (by-kind held) where
@@ -219,7 +219,7 @@ pub distinct_have : (cells : List Cell) → AreDistinct (numbers_of cells) → H
 distinct_have [] d = tt
 distinct_have (one ∷ rest) d = (ap (λ b. if b then one.value else value_in rest one.cell) (is_same one.cell), not-first one rest rest d.0 (distinct_have rest d.1))
 
-nothing-held : (values : ℕ → Option Value) → AreSame values (λ c. None) no_numbers [] []
+pub nothing-held : (values : ℕ → Option Value) → AreSame values (λ c. None) no_numbers [] []
 nothing-held values c (inl h) = absurd cc
 nothing-held values c (inr h) = absurd cc
 

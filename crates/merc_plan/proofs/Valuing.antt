@@ -41,26 +41,27 @@ module _ (plan : Plan) (program : Program) (prompt : ArePrompt plan program) (go
 
 -- The split trees of a program and of a goal that is asked behind it.
 
-modes_prompt : (plan : Plan) (modes : List ModeDecl) (trees : List Node) (number : ℕ) (body : ProcedureBody) → AllByRecursion (Prompt plan) trees → body_of_mode modes trees number ≡ Some body → Prompt plan body.body
-modes_prompt plan [] trees number body all e = absurd (cc)
-modes_prompt plan (mode ∷ modes) [] number body all e = absurd (cc)
-modes_prompt plan (mode ∷ modes) (tree ∷ trees) zero body all e = subst (λ (n : Node). Prompt plan n) (body_same (record { places = mode.args; body = tree }) body e) all.0
+modes_are : (Is : Node → Type 0) (modes : List ModeDecl) (trees : List Node) (number : ℕ) (body : ProcedureBody) → AllByRecursion Is trees → body_of_mode modes trees number ≡ Some body → Is body.body
+modes_are Is [] trees number body all e = absurd (cc)
+modes_are Is (mode ∷ modes) [] number body all e = absurd (cc)
+modes_are Is (mode ∷ modes) (tree ∷ trees) zero body all e = subst (λ (n : Node). Is n) (body_same (record { places = mode.args; body = tree }) body e) all.0
   where
     body_same : (one other : ProcedureBody) → Some one ≡ Some other → one.body ≡ other.body
     body_same one other e = cc
-modes_prompt plan (mode ∷ modes) (tree ∷ trees) (suc number) body all e = modes_prompt plan modes trees number body all.1 e
+modes_are Is (mode ∷ modes) (tree ∷ trees) (suc number) body all e = modes_are Is modes trees number body all.1 e
 
-drop_prompt : (plan : Plan) (n : ℕ) (trees : List Node) → AllByRecursion (Prompt plan) trees → AllByRecursion (Prompt plan) (drop n trees)
-drop_prompt plan zero trees all = all
-drop_prompt plan (suc n) [] all = tt
-drop_prompt plan (suc n) (tree ∷ trees) all = drop_prompt plan n trees all.1
+drop_are : (Is : Node → Type 0) (n : ℕ) (trees : List Node) → AllByRecursion Is trees → AllByRecursion Is (drop n trees)
+drop_are Is zero trees all = all
+drop_are Is (suc n) [] all = tt
+drop_are Is (suc n) (tree ∷ trees) all = drop_are Is n trees all.1
 
-predicates_prompt : (plan : Plan) (predicates : List PredDecl) (trees : List Node) (predicate mode : ℕ) (body : ProcedureBody) → AllByRecursion (Prompt plan) trees
-    → body_of predicates trees predicate mode ≡ Some body → Prompt plan body.body
-predicates_prompt plan [] trees predicate mode body all e = absurd (cc)
-predicates_prompt plan (declared ∷ rest) trees zero mode body all e = modes_prompt plan declared.modes trees mode body all e
-predicates_prompt plan (declared ∷ rest) trees (suc predicate) mode body all e =
-    predicates_prompt plan rest (drop (length declared.modes) trees) predicate mode body (drop_prompt plan (length declared.modes) trees all) e
+-- the body of each procedure is such, where all trees are
+pub bodies_are : (Is : Node → Type 0) (predicates : List PredDecl) (trees : List Node) (predicate mode : ℕ) (body : ProcedureBody) → AllByRecursion Is trees
+    → body_of predicates trees predicate mode ≡ Some body → Is body.body
+bodies_are Is [] trees predicate mode body all e = absurd (cc)
+bodies_are Is (declared ∷ rest) trees zero mode body all e = modes_are Is declared.modes trees mode body all e
+bodies_are Is (declared ∷ rest) trees (suc predicate) mode body all e =
+    bodies_are Is rest (drop (length declared.modes) trees) predicate mode body (drop_are Is (length declared.modes) trees all) e
 
 all_prompt : (plan : Plan) (site : ℕ) (trees : List Node) → AllByRecursion BindsOnce trees → HasSites plan site (all_sites trees) → AllByRecursion (Prompt plan) (all_split site trees)
 all_prompt plan site [] b h = tt
@@ -69,7 +70,7 @@ all_prompt plan site (tree ∷ trees) b h = (
   all_prompt plan (site + forks tree) trees b.1 (has_back plan site (forks tree) (sites tree) (all_sites trees) (planned_count tree nothing [] []) h),
 )
 
-listed_sites : (infos : List SiteInfo) → HasSites (plan_of infos) 0 infos
+pub listed_sites : (infos : List SiteInfo) → HasSites (plan_of infos) 0 infos
 listed_sites infos number info e = ap (λ (k : ℕ). slice_get infos k) (omega arith) ∙ e
 
 module _ (predicates : List PredDecl) (trees : List Node) (goal : Node) (once : AllByRecursion BindsOnce trees) (goal_once : BindsOnce goal) where
@@ -82,15 +83,15 @@ module _ (predicates : List PredDecl) (trees : List Node) (goal : Node) (once : 
   abbrev whole : Node
   whole = split (length (all_sites trees)) goal
 
-  planned : HasSites plan 0 (all_sites trees ++ all_sites (goal ∷ []))
+  pub planned : HasSites plan 0 (all_sites trees ++ all_sites (goal ∷ []))
   planned = subst (λ infos. HasSites plan 0 infos) (sites_append trees (goal ∷ [])) (listed_sites (all_sites (trees ++ goal ∷ [])))
 
-  program_prompt : ArePrompt plan program
+  pub program_prompt : ArePrompt plan program
   program_prompt procedure body e =
-      predicates_prompt plan predicates (all_split 0 trees) procedure.predicate procedure.mode body
+      bodies_are (Prompt plan) predicates (all_split 0 trees) procedure.predicate procedure.mode body
       (all_prompt plan 0 trees once (has_front plan 0 (all_sites trees) (all_sites (goal ∷ [])) planned)) e
 
-  goal_prompt : Prompt plan whole
+  pub goal_prompt : Prompt plan whole
   goal_prompt =
       split_prompt plan (length (all_sites trees)) goal goal_once
       (has_front plan (length (all_sites trees)) (sites goal) []

@@ -20,10 +20,10 @@ use Rattle.merc_script_laws.proofs.Top.{alone_quiet, alone_joins, alone_shows, a
 use Rattle.merc_script_laws.proofs.Trees.{goes_node}
 
 -- what type variables stand for is not seen
-abbrev any : Instance
+abbrev pub any : Instance
 any x = IntType
 
-all_go : (known : Module) (trees : List Node) (sound : IsSoundProgram known trees) (tree : Node) → AllGo known (program_with known.preds trees) (split_plan trees tree) (split_program known.preds trees)
+pub all_go : (known : Module) (trees : List Node) (sound : IsSoundProgram known trees) (tree : Node) → AllGo known (program_with known.preds trees) (split_plan trees tree) (split_program known.preds trees)
 all_go known trees sound tree types i depth lawful course go n site =
     let program = program_with known.preds trees in
     goes_node known types i sound.good_types program (call_trace program depth) lawful (split_plan trees tree) (split_program known.preds trees) course go (depth, refl) n site

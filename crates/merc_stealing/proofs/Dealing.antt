@@ -1,6 +1,6 @@
 -- Children and tickets from the back, and where a parent parks.
-use Rattle.std.proofs.Common.{◌≡◌, ℕ, zero, suc, ◌+◌, ◌≤◌, ◌<◌, List, [], ◌∷◌, ◌++◌, length, refl, sym, ap, ◌∙◌, subst, arith, ⊎_elim, ◌⊎◌, inl, inr}
-use Rattle.std.specs.Prelude.{Option, Some, None, slice_get}
+use Rattle.std.proofs.Common.{◌≡◌, ℕ, suc, ◌+◌, List, [], ◌∷◌, ◌++◌, length, sym, ap, ◌∙◌, subst, arith, ⊎_elim}
+use Rattle.std.specs.Prelude.{Some, slice_get}
 use Rattle.std.proofs.lemmas.List.{length-append}
 use Rattle.std.specs.declared.boxed.Box.{Box}
 use Rattle.std.specs.declared.alloc.Global.{Global}
@@ -9,23 +9,22 @@ use Rattle.merc_value.specs.Block.{BlockData}
 use Rattle.merc_script.specs.Script.{Script, ForkThen, Children, Cell, Move}
 use Rattle.merc_script.specs.Places.{Place, left_of}
 use Rattle.merc_join.specs.declared.ends.Ticket.{Ticket}
-use Rattle.merc_join.specs.Tickets.{ticket_parent, ticket_child, ticket_children, AreDealt, AreTickets}
+use Rattle.merc_join.specs.Tickets.{ticket_parent, ticket_child, ticket_children, AreTickets}
 use Rattle.merc_yard.specs.declared.spot.Spot.{Spot}
-use Rattle.merc_yard.specs.declared.berth.Berth.{Berth}
 use Rattle.merc_yard.specs.declared.spot.Fill.TheVariants.{Filled}
 use Rattle.merc_yard.specs.declared.spot.Purpose.TheVariants.{Forks}
 use Rattle.merc_yard.specs.Berths.{spot_of}
 use Rattle.merc_board.specs.declared.branch.Branch.{Branch}
 use Rattle.merc_board.specs.Rights.{Rights}
 use Rattle.merc_board.specs.Going.{child_place}
-use Rattle.merc_stealing.specs.declared.types.Bed.{Bed}
-use Rattle.merc_stealing.specs.declared.branch.Hold.{Hold}
-use Rattle.merc_stealing.specs.Owning.{spot_held}
-use Rattle.merc_stealing.specs.Spots.{place, fork_count, parked, parking_in, parked_for, Reaches}
-use Rattle.merc_stealing.specs.Beds.{IsMoored}
-use Rattle.merc_stealing.specs.Lying.{rights}
-use Rattle.merc_stealing.specs.Kids.{IsFor, AreFor, KidFits, AreMade, Joins}
-use Rattle.merc_stealing.proofs.Lists.{got_end, at_last, at_front}
+use Rattle.merc_held_branches.specs.declared.types.Bed.{Bed}
+use Rattle.merc_held_branches.specs.declared.branch.Hold.{Hold}
+use Rattle.merc_held_branches.specs.Owning.{spot_held}
+use Rattle.merc_held_branches.specs.Spots.{place, fork_count, parked, parking_in, parked_for, Reaches}
+use Rattle.merc_held_branches.specs.Beds.{IsMoored}
+use Rattle.merc_held_branches.specs.Lying.{rights}
+use Rattle.merc_held_branches.specs.Kids.{IsFor, AreFor, KidFits, AreMade, Joins}
+use Rattle.merc_held_branches.proofs.Lists.{got_end, at_last, at_front}
 
 module _ {L : Type 0} (root : Script) (stands : L → Rights → Place → Type 0) (table : TableId) where
   abbrev Parted : List (Box (Branch L (Hold L)) Global) → List (Ticket (Bed L)) → Box (Branch L (Hold L)) Global → Ticket (Bed L) → Type 0

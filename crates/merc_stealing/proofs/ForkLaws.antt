@@ -1,6 +1,6 @@
 -- A parent at a fork whose children were made and given their rights.
-use Rattle.std.proofs.Common.{◌≡◌, ◌≤◌, ℕ, zero, suc, ◌+◌, List, [], ◌∷◌, length, map, refl, sym, ap, ◌∙◌, subst, arith}
-use Rattle.std.specs.Prelude.{Option, Some, None, slice_get}
+use Rattle.std.proofs.Common.{◌≡◌, ℕ, suc, List, length, sym, ap, ◌∙◌, subst, arith}
+use Rattle.std.specs.Prelude.{Option, Some}
 use Rattle.std.proofs.lemmas.List.{length-map}
 use Rattle.std.specs.List.{All}
 use Rattle.std.specs.declared.boxed.Box.{Box}
@@ -18,15 +18,15 @@ use Rattle.merc_board.specs.Boarding.{Prepares, AreCells, numbers_of}
 use Rattle.merc_join.specs.declared.ends.Ticket.{Ticket}
 use Rattle.merc_yard.specs.declared.berth.Berth.{Berth}
 use Rattle.merc_yard.specs.declared.spot.Spot.{Spot}
-use Rattle.merc_stealing.specs.declared.types.Bed.{Bed}
-use Rattle.merc_stealing.specs.declared.branch.Hold.{Hold}
-use Rattle.merc_stealing.specs.Spots.{place, fork_count, Reaches}
-use Rattle.merc_stealing.specs.Lying.{AreNamed, Placed, rights}
-use Rattle.merc_stealing.specs.Owning.{HasBerth, Runs, Own, spot_held}
-use Rattle.merc_stealing.specs.Kids.{IsKid, AreFor, HaveBerths, Joins, with_waits, with_signals}
-use Rattle.merc_stealing.specs.Sharing.{cells_of, cells_ahead, own_rights}
+use Rattle.merc_held_branches.specs.declared.types.Bed.{Bed}
+use Rattle.merc_held_branches.specs.declared.branch.Hold.{Hold}
+use Rattle.merc_held_branches.specs.Spots.{place, fork_count, Reaches}
+use Rattle.merc_held_branches.specs.Lying.{AreNamed, Placed, rights}
+use Rattle.merc_held_branches.specs.Owning.{HasBerth, Own, spot_held}
+use Rattle.merc_held_branches.specs.Kids.{AreFor, HaveBerths, Joins, with_waits, with_signals}
+use Rattle.merc_held_branches.specs.Sharing.{cells_of, cells_ahead, own_rights}
 use Rattle.merc_stealing.proofs.Dealing.{lands}
-use Rattle.merc_stealing.proofs.Lists.{got_or}
+use Rattle.merc_held_branches.proofs.Lists.{got_or}
 
 cells_there : (root : Script) (o : Spot) (at : Place) (limit : ℕ) (cells : List Cell) (moves : List Move) (children : Children) (rest : Script) → Reaches root o at → left_of at ≡ Some (ForkThen limit cells moves children rest)
     → cells_ahead root o ≡ numbers_of cells

@@ -1,5 +1,5 @@
 -- What workers ask of a board, as the stealing board asks it.
-use Rattle.std.proofs.Common.{◌≡◌, Bool, true, false, ℕ, zero, suc, List, [], refl, sym, ap, ◌∙◌, subst}
+use Rattle.std.proofs.Common.{◌≡◌, Bool, true, false, ℕ, List, [], refl, sym, ap, ◌∙◌, subst}
 use Rattle.std.specs.Prelude.{Option, Some, None}
 use Rattle.std.specs.declared.alloc.Global.{Global}
 use Rattle.merc_script.specs.declared.outcome.Outcome.{Outcome}
@@ -20,17 +20,17 @@ use Rattle.merc_board.specs.declared.fork.SharedCell.{SharedCell}
 use Rattle.merc_board.specs.declared.fork.Handover.{Handover}
 use Rattle.merc_board.specs.Boarding.{MayEnd as MayEndAs, Prepares, MayGoOn, at_end, lost, lost_at, lost_starved, starves, IsJoined}
 use Rattle.merc_board.specs.declared.branch.Pace.TheVariants.{On}
-use Rattle.merc_stealing.specs.declared.branch.Hold.{Hold}
-use Rattle.merc_stealing.specs.Spots.{place, parked}
-use Rattle.merc_stealing.specs.Owning.{Runs, Own, MayEnd, spot_held}
+use Rattle.merc_held_branches.specs.declared.branch.Hold.{Hold}
+use Rattle.merc_held_branches.specs.Spots.{place, parked}
+use Rattle.merc_held_branches.specs.Owning.{Runs, Own, MayEnd, spot_held}
 use Rattle.merc_stealing.specs.Parents.{Near}
 use Rattle.merc_stealing.specs.Seats.{ArePasses}
 use Rattle.merc_stealing.specs.Hands.{OwnOf, RunsOf, is_none, is_root_hold}
-use Rattle.merc_stealing.specs.Lying.{Placed}
-use Rattle.merc_stealing.specs.Owning.{HasBerth}
-use Rattle.merc_stealing.specs.Spots.{Reaches}
-use Rattle.merc_stealing.specs.Picking.{IsKept}
-use Rattle.merc_stealing.specs.declared.types.Bed.{Bed}
+use Rattle.merc_held_branches.specs.Lying.{Placed}
+use Rattle.merc_held_branches.specs.Owning.{HasBerth}
+use Rattle.merc_held_branches.specs.Spots.{Reaches}
+use Rattle.merc_held_branches.specs.Picking.{IsKept}
+use Rattle.merc_held_branches.specs.declared.types.Bed.{Bed}
 use Rattle.merc_join.specs.declared.ends.Ticket.{Ticket}
 use Rattle.merc_yard.specs.declared.berth.Berth.{Berth}
 
@@ -101,18 +101,21 @@ may_go_on false = tt
 -- what is asked of a fork
 pub prepares : {L T : Type 0} (root : Script) (table : TableId) (thieves : List (Thief T)) (passes : List (Pass T (Known T) Global)) (hold : Hold L) (forked stands : L → Rights → Place → Type 0) (load : L) (rights : Rights) (shared : List SharedCell)
     (given : List Handover) (limit : ℕ) (loads : List L) → Prepares (OwnOf root table thieves passes hold) forked stands load rights shared given limit loads → ArePasses thieves passes × Prepares (Own root table hold) forked stands load rights shared given limit loads
-prepares root table thieves passes hold forked stands load rights shared given limit loads p = (p.owned.0, record {
-  at = p.at;
-  cells = p.cells;
-  moves = p.moves;
-  children = p.children;
-  rest = p.rest;
-  owned = p.owned.1;
-  left = p.left;
-  are_cells = p.are_cells;
-  parent = p.parent;
-  same_count = p.same_count;
-  some = p.some;
-  few = p.few;
-  each = p.each;
-})
+prepares root table thieves passes hold forked stands load rights shared given limit loads p = (
+  p.owned.0,
+  record {
+    at = p.at;
+    cells = p.cells;
+    moves = p.moves;
+    children = p.children;
+    rest = p.rest;
+    owned = p.owned.1;
+    left = p.left;
+    are_cells = p.are_cells;
+    parent = p.parent;
+    same_count = p.same_count;
+    some = p.some;
+    few = p.few;
+    each = p.each;
+  },
+)

@@ -1,18 +1,17 @@
 -- Outcomes that are near the true ones make together what is near the true one.
-use Rattle.std.proofs.Common.{◌≡◌, ℕ, zero, suc, ◌+◌, Bool, true, false, List, [], ◌∷◌, ◌++◌, length, refl, sym, ap, ◌∙◌, subst, arith}
-use Rattle.std.specs.Prelude.{Option, Some, None, slice_get, if◌then◌else◌, nat_le}
+use Rattle.std.proofs.Common.{◌≡◌, ℕ, suc, ◌+◌, Bool, true, false, List, [], ◌∷◌, ◌++◌, length, refl, sym, ap, ◌∙◌, subst, arith}
+use Rattle.std.specs.Prelude.{Option, Some, slice_get, if◌then◌else◌, nat_le}
 use Rattle.merc_script.specs.declared.outcome.Outcome.{Outcome}
 use Rattle.merc_script.specs.declared.outcome.Outcome.TheVariants.{Ok as Fine, Raise, Limit, Starved, NoMemory}
-use Rattle.merc_script.specs.Script.{Script, Ends, TickThen, WaitThen, SignalThen, ForkThen, Children, NoChild, Child, Cell, Move, ends, end_of, count}
-use Rattle.merc_script.specs.Places.{Place, Name, left_of, left_in, script_named, child_of, child_at}
-use Rattle.merc_script.specs.Joining.{joined, joined_behind, joined_with, lacks_memory}
+use Rattle.merc_script.specs.Script.{Script, ForkThen, Children, NoChild, Child, Cell, Move, ends, end_of, count}
+use Rattle.merc_script.specs.Places.{Name, left_of, left_in, script_named, child_of, child_at}
+use Rattle.merc_script.specs.Joining.{joined_behind, joined_with, lacks_memory}
 use Rattle.merc_script.proofs.JoiningLaws.{joined-in-order}
 use Rattle.merc_yard.specs.declared.berth.Berth.{Berth}
-use Rattle.merc_yard.specs.declared.spot.Spot.{Spot}
 use Rattle.merc_yard.specs.Berths.{spot_of}
 use Rattle.atomic_table.specs.Seated.{TableId}
-use Rattle.merc_stealing.specs.Spots.{place, fork_count}
-use Rattle.merc_stealing.specs.Beds.{EndsChild, EndsAs, child_name}
+use Rattle.merc_held_branches.specs.Spots.{place, fork_count}
+use Rattle.merc_held_branches.specs.Beds.{EndsChild, child_name}
 use Rattle.merc_stealing.specs.Parents.{Near, AreEnds, IsJoin}
 
 is_lost : Outcome → Bool

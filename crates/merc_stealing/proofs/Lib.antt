@@ -1,14 +1,9 @@
-mod Lists
 mod Looking
 mod Joins
 mod Naming
 mod Reaching
 mod StealingExamples
 mod Dealing
-mod Picking
-mod Giving
-mod Handing
-mod CellLaws
 mod ForkLaws
 mod HandLaws
 mod Forming

@@ -1,33 +1,33 @@
 -- Names and ends of scripts.
-use Rattle.std.proofs.Common.{◌≡◌, ℕ, zero, suc, ◌+◌, List, [], ◌∷◌, ◌++◌, refl, sym, ap, ◌∙◌, subst, arith}
+use Rattle.std.proofs.Common.{◌≡◌, ℕ, zero, suc, List, refl, sym, ap, ◌∙◌, subst}
 use Rattle.std.specs.Prelude.{Option, Some, None}
 use Rattle.merc_value.specs.Block.{BlockData}
 use Rattle.merc_script.specs.declared.outcome.Outcome.{Outcome}
 use Rattle.merc_script.specs.Script.{Script, Ends, TickThen, WaitThen, SignalThen, ForkThen, end_of}
 use Rattle.merc_script.specs.Places.{Place, Name, left_of, left_in, left_behind, script_named}
 use Rattle.merc_yard.specs.declared.spot.Spot.{Spot}
-use Rattle.merc_stealing.specs.Spots.{place, Reaches, behind, after, after_as}
+use Rattle.merc_held_branches.specs.Spots.{place, Reaches, behind, after_as}
 use Rattle.merc_script.specs.declared.outcome.Outcome.TheVariants.{Ok as Fine, Raise, Limit, Starved, NoMemory}
 use Rattle.atomic_table.specs.Seated.{TableId}
 use Rattle.merc_join.specs.declared.ends.Ticket.{Ticket}
 use Rattle.merc_join.specs.Tickets.{ticket_parent, ticket_child, ticket_children}
 use Rattle.merc_join.specs.declared.outcomes.Finished.{Finished}
 use Rattle.merc_join.specs.Answers.{IsFinished}
-use Rattle.merc_stealing.specs.declared.types.Bed.{Bed}
-use Rattle.merc_stealing.specs.declared.branch.Hold.{Hold}
-use Rattle.merc_stealing.specs.Beds.{IsEnd, EndsChild, child_name}
+use Rattle.merc_held_branches.specs.declared.types.Bed.{Bed}
+use Rattle.merc_held_branches.specs.declared.branch.Hold.{Hold}
+use Rattle.merc_held_branches.specs.Beds.{IsEnd, EndsChild, child_name}
 use Rattle.merc_stealing.proofs.Joins.{joins_so}
 use Rattle.merc_script.specs.Joining.{joined_behind}
 use Rattle.merc_board.specs.declared.branch.Branch.{Branch}
 use Rattle.merc_board.specs.Rights.{Rights}
 use Rattle.merc_yard.specs.Berths.{spot_of}
-use Rattle.merc_stealing.specs.Lying.{Placed, LiesFor, LinkFits, ForksAt, AreNamed, rights}
+use Rattle.merc_held_branches.specs.Lying.{Placed, LiesFor, LinkFits, ForksAt, AreNamed, rights}
 use Rattle.merc_yard.specs.declared.berth.Berth.{Berth}
 use Rattle.merc_yard.specs.declared.spot.Fill.TheVariants.{Filled}
 use Rattle.merc_yard.specs.declared.spot.Purpose.TheVariants.{Forks}
-use Rattle.merc_stealing.specs.Beds.{IsMoored}
-use Rattle.merc_stealing.specs.Owning.{Own, Runs, MayEnd, spot_held, HasBerth, Unmoored}
-use Rattle.merc_stealing.specs.Parents.{AreEnds, IsParent, IsJoin, HoldsAt}
+use Rattle.merc_held_branches.specs.Beds.{IsMoored}
+use Rattle.merc_held_branches.specs.Owning.{Own, Runs, MayEnd, spot_held, HasBerth, Unmoored}
+use Rattle.merc_stealing.specs.Parents.{AreEnds, IsParent, IsJoin}
 
 end_behind : (n : ℕ) (s : Script) (o : Outcome) → left_behind n s ≡ Some (Ends o) → end_of s ≡ o
 end_behind zero s o e = let is : s ≡ Ends o = cc (e) in ap end_of is

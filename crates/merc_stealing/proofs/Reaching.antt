@@ -1,14 +1,14 @@
 -- A branch that passes Ticks and Signals parks where it would have parked.
-use Rattle.std.proofs.Common.{◌≡◌, ℕ, zero, suc, ◌+◌, List, [], ◌∷◌, refl, sym, ap, ◌∙◌, subst, arith}
+use Rattle.std.proofs.Common.{◌≡◌, ℕ, zero, suc, ◌+◌, ap, ◌∙◌, arith}
 use Rattle.std.specs.Prelude.{Option, Some, None}
 use Rattle.merc_script.specs.Script.{Script, Ends, TickThen, WaitThen, SignalThen, ForkThen}
-use Rattle.merc_script.specs.Places.{Place, Name, left_of, left_in, left_behind, script_named}
+use Rattle.merc_script.specs.Places.{Place, left_of, left_in, left_behind, script_named}
 use Rattle.atomic_table.specs.Seated.{TableId}
 use Rattle.merc_yard.specs.declared.spot.Spot.{Spot}
-use Rattle.merc_stealing.specs.declared.branch.Hold.{Hold}
+use Rattle.merc_held_branches.specs.declared.branch.Hold.{Hold}
 use Rattle.merc_board.specs.Going.{next, ticks_before, Ticked}
-use Rattle.merc_stealing.specs.Spots.{place, parking, parking_in, parked, Reaches}
-use Rattle.merc_stealing.specs.Owning.{Own, Runs}
+use Rattle.merc_held_branches.specs.Spots.{parking, parking_in, Reaches}
+use Rattle.merc_held_branches.specs.Owning.{Own}
 
 parking_ticks : (made : ℕ) (rest : Script) → parking (ticks_before made rest) ≡ made + parking rest
 parking_ticks zero rest = omega arith

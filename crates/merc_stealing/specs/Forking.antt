@@ -7,13 +7,13 @@ use Rattle.atomic_table.specs.Seated.{TableId}
 use Rattle.merc_cell.specs.Ends.{consumer_name}
 use Rattle.merc_board.specs.declared.fork.SharedCell.{SharedCell}
 use Rattle.merc_board.specs.Rights.{own_waits}
-use Rattle.merc_stealing.specs.declared.branch.Hold.{Hold}
+use Rattle.merc_held_branches.specs.declared.branch.Hold.{Hold}
 use Rattle.merc_stealing.specs.declared.preparing.Made.{Made}
-use Rattle.merc_stealing.specs.Beds.{IsNamed}
-use Rattle.merc_stealing.specs.Lying.{due_of}
-use Rattle.merc_stealing.specs.Owning.{spot_held}
-use Rattle.merc_stealing.specs.Kids.{AreFor, HaveBerths}
-use Rattle.merc_stealing.specs.Sharing.{cells_ahead, own_rights}
+use Rattle.merc_held_branches.specs.Beds.{IsNamed}
+use Rattle.merc_held_branches.specs.Lying.{due_of}
+use Rattle.merc_held_branches.specs.Owning.{spot_held}
+use Rattle.merc_held_branches.specs.Kids.{AreFor, HaveBerths}
+use Rattle.merc_held_branches.specs.Sharing.{cells_ahead, own_rights}
 
 module _ {L : Type 0} (root : Script) (table : TableId) (hold : Hold L) (shared : List SharedCell) (loads : List L) where
   -- A branch for each load has its rights to the cells of the fork ahead, and the parent those behind it, with room for all rights that the parent has.

@@ -8,9 +8,9 @@ use Rattle.crossbeam_deque.specs.Handles.{Pass}
 use Rattle.merc_deque.specs.declared.moves.Known.{Known}
 use Rattle.merc_deque.specs.declared.sparks.Thief.{Thief}
 use Rattle.merc_yard.specs.declared.spot.Spot.{Spot}
-use Rattle.merc_stealing.specs.declared.branch.Hold.{Hold}
-use Rattle.merc_stealing.specs.Spots.{place}
-use Rattle.merc_stealing.specs.Owning.{Runs, Own}
+use Rattle.merc_held_branches.specs.declared.branch.Hold.{Hold}
+use Rattle.merc_held_branches.specs.Spots.{place}
+use Rattle.merc_held_branches.specs.Owning.{Runs, Own}
 use Rattle.merc_stealing.specs.Parents.{HoldsAt}
 use Rattle.merc_stealing.specs.Seats.{ArePasses}
 

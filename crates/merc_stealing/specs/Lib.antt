@@ -1,15 +1,8 @@
-pub mod Spots
-pub mod Beds
-pub mod Lying
-pub mod Owning
 pub mod Seats
 pub mod Stolen
 pub mod Taking
 pub mod Waiting
 pub mod Parents
 pub mod Memory
-pub mod Kids
-pub mod Sharing
 pub mod Forking
-pub mod Picking
 pub mod Hands

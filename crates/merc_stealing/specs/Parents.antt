@@ -1,9 +1,9 @@
 -- Parents behind their children.
-use Rattle.std.specs.Prelude.{◌≡◌, ℕ, suc, ◌+◌, List, [], ◌∷◌, Option, Some, None, length, slice_get, ⊤, false}
+use Rattle.std.specs.Prelude.{◌≡◌, ℕ, List, Option, Some, None, length, slice_get, ⊤, false}
 use Rattle.merc_value.specs.Block.{BlockData}
 use Rattle.merc_script.specs.declared.outcome.Outcome.{Outcome}
 use Rattle.merc_script.specs.declared.outcome.Outcome.TheVariants.{Ok as Fine, Raise, Limit, Starved, NoMemory}
-use Rattle.merc_script.specs.Script.{Script, ForkThen, Children, NoChild, Child, Cell, Move, ends}
+use Rattle.merc_script.specs.Script.{Script, ForkThen, Children, Cell, Move, ends}
 use Rattle.merc_script.specs.Places.{Place, left_of}
 use Rattle.merc_script.specs.Joining.{joined, lacks_memory}
 use Rattle.atomic_table.specs.Seated.{TableId}
@@ -12,13 +12,13 @@ use Rattle.merc_yard.specs.declared.spot.Spot.{Spot}
 use Rattle.merc_yard.specs.declared.spot.Fill.TheVariants.{Filled}
 use Rattle.merc_yard.specs.declared.spot.Purpose.TheVariants.{Forks}
 use Rattle.merc_yard.specs.Berths.{spot_of}
-use Rattle.merc_stealing.specs.declared.branch.Hold.{Hold}
+use Rattle.merc_held_branches.specs.declared.branch.Hold.{Hold}
 use Rattle.merc_board.specs.declared.branch.Branch.{Branch}
 use Rattle.merc_board.specs.Rights.{Rights}
-use Rattle.merc_stealing.specs.Spots.{place, behind, fork_count}
-use Rattle.merc_stealing.specs.Beds.{IsMoored, EndsChild}
-use Rattle.merc_stealing.specs.Lying.{rights, ForksAt}
-use Rattle.merc_stealing.specs.Owning.{Runs, Own, spot_held}
+use Rattle.merc_held_branches.specs.Spots.{place, behind, fork_count}
+use Rattle.merc_held_branches.specs.Beds.{IsMoored, EndsChild}
+use Rattle.merc_held_branches.specs.Lying.{rights, ForksAt}
+use Rattle.merc_held_branches.specs.Owning.{Runs, spot_held}
 
 -- the outcomes of the children of the Fork at which a branch lies in this berth
 pub record AreEnds (root : Script) (table : TableId) (berth : Berth) (outcomes : List Outcome) : Type 0 where

@@ -4,11 +4,11 @@ ghost use Rattle.merc_yard.specs.Yards.{yard_table};
 ghost use Rattle.merc_yard.specs.Slots.{nowhere};
 ghost use Rattle.merc_yard.specs.Berths.{IsVacant};
 
-use crate::branch::Lot;
 use crate::formed::WellFormed;
-use crate::seat::{Room, Spark};
+use crate::seat::Spark;
 use merc_board::Load;
 use merc_deque::Thief;
+use merc_held_branches::{Lot, Room};
 use merc_yard::Berth;
 
 /// A board whose workers take branches from each other's deques. Nothing in it is locked.

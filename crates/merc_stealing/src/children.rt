@@ -1,7 +1,8 @@
 //! The children of a fork that were made.
 ghost use Rattle.std.specs.Prelude.{◌<◌, length};
 
-use crate::seat::{Room, Spark};
+use crate::seat::Spark;
+use merc_held_branches::Room;
 
 /// The children of a fork, which can be started, the first one last.
 #[derive(Drop)]

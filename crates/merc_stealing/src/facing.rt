@@ -5,21 +5,20 @@ ghost use Rattle.merc_script.specs.Places.{Place, left_of};
 ghost use Rattle.merc_cell.specs.Ends.{consumer_name, producer_name};
 ghost use Rattle.merc_board.specs.Rights.{wait_for, signal_for};
 ghost use Rattle.merc_board.specs.Boarding.{MayEnd as MayEndAs, IsWaited, KeepsCount, Prepares};
-ghost use Rattle.merc_stealing.specs.Beds.{IsNamed, cell_named};
-ghost use Rattle.merc_stealing.specs.Lying.{rights as rights_of};
+ghost use Rattle.merc_held_branches.specs.Beds.{IsNamed, cell_named};
+ghost use Rattle.merc_held_branches.specs.Lying.{rights as rights_of};
 ghost use Rattle.merc_stealing.specs.Seats.{ArePasses};
 ghost use Rattle.merc_stealing.specs.Hands.{OwnOf, RunsOf, HoldsOf, is_root_hold};
 
 use crate::board::StealingBoard;
-use crate::branch::{Held, Hold};
 use crate::children::Children;
 use crate::named::{NamedSignal, NamedWait};
 use crate::preparing::prepare;
-use crate::rights::{take_signal, take_wait};
-use crate::seat::{Room, Seat};
+use crate::seat::Seat;
 use merc_base::NoMemory;
 use merc_board::{Board, Handover, Load, Opened, Pace, Resumed, SharedCell, Waited, Woken};
 use merc_goal_tree::Var;
+use merc_held_branches::{Held, Hold, Room, take_signal, take_wait};
 use merc_script::Outcome;
 use merc_value::Block;
 use std::alloc::Global;
@@ -29,9 +28,13 @@ use std::sync::Wait;
 
 impl<M: Load + Send + Sync, N: Room + Send + Sync> Board<M> for StealingBoard<M, N> {
     type Hold = Hold<M>;
+
     type Seat = Seat<N>;
+
     type WaitRight = NamedWait<M, N>;
+
     type SignalRight = NamedSignal<M, N>;
+
     type Children = Children<N>;
 
     ghost closed = { λ board. board.thieves.items ≡ [] };
@@ -134,9 +137,7 @@ impl<M: Load + Send + Sync, N: Room + Send + Sync> Board<M> for StealingBoard<M,
         ensures err { IfErr result (λ back. RunsOf M.root N.table self.now.thieves.items seat.new.passes.items back.0.value.hold) }
         ensures count { KeepsCount {S = _} (λ _ _. Unit {0}) (λ _. Unit {0}) seat.old seat.new }
     {
-        prepare(
-            alloc, &self.lot, seat, loads, parent, limit, shared, given,
-        )
+        prepare(alloc, &self.lot, seat, loads, parent, limit, shared, given)
     }
 
     fn fork<R: Wait>(&self, _rt: &R, seat: &mut Seat<N>, children: Children<N>) -> Held<M> {
@@ -158,13 +159,7 @@ impl<M: Load + Send + Sync, N: Room + Send + Sync> Board<M> for StealingBoard<M,
         StealingBoard::wait(self, right, branch)
     }
 
-    fn signal<R: Wait>(
-        &self,
-        _rt: &R,
-        seat: &mut Seat<N>,
-        right: NamedSignal<M, N>,
-        value: Block,
-    ) {
+    fn signal<R: Wait>(&self, _rt: &R, seat: &mut Seat<N>, right: NamedSignal<M, N>, value: Block) {
         let NamedSignal { right, of: _ } = right;
         StealingBoard::signal(self, seat, right, value);
     }

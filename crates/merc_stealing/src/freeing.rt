@@ -5,13 +5,13 @@ ghost use Rattle.merc_yard.specs.declared.spot.Fill.TheVariants.{Filled};
 ghost use Rattle.merc_yard.specs.declared.spot.Purpose.TheVariants.{Free};
 ghost use Rattle.merc_yard.specs.Yards.{yard_table};
 ghost use Rattle.merc_yard.specs.Berths.{IsFilled, IsVacant, spot_of};
-ghost use Rattle.merc_stealing.specs.Beds.{IsMoored};
-ghost use Rattle.merc_stealing.specs.Lying.{Linked};
-ghost use Rattle.merc_stealing.specs.Owning.{HasBerth};
+ghost use Rattle.merc_held_branches.specs.Beds.{IsMoored};
+ghost use Rattle.merc_held_branches.specs.Lying.{Linked};
+ghost use Rattle.merc_held_branches.specs.Owning.{HasBerth};
 
-use crate::branch::{Lot, Moored};
-use crate::seat::{Chain, Room, Seat};
+use crate::seat::{Chain, Seat};
 use merc_board::Load;
+use merc_held_branches::{Lot, Moored, Room};
 use merc_yard::{Berth, NextSpot};
 use std::marker::{Brand, PhantomData};
 

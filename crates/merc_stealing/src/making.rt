@@ -4,13 +4,13 @@ ghost use Rattle.std.specs.Vec.{vec_capacity};
 ghost use Rattle.merc_board.specs.declared.branch.Woken.TheVariants.{No};
 ghost use Rattle.merc_yard.specs.Yards.{yard_table};
 ghost use Rattle.merc_board.specs.Rights.{no_rights};
-ghost use Rattle.merc_stealing.specs.Kids.{IsFor, AreFor, HaveBerths};
+ghost use Rattle.merc_held_branches.specs.Kids.{IsFor, AreFor, HaveBerths};
 
-use crate::branch::{Held, Hold, Lot};
 use crate::freeing::{free_berth, keep_berth};
-use crate::seat::{Room, Seat};
+use crate::seat::Seat;
 use merc_base::NoMemory;
 use merc_board::{Branch, Load, Woken};
+use merc_held_branches::{Held, Hold, Lot, Room};
 use std::alloc::Global;
 
 // A branch without rights, with room for so many of each kind.

@@ -7,13 +7,13 @@ ghost use Rattle.merc_yard.specs.declared.spot.Fill.TheVariants.{Vacant, Filled}
 ghost use Rattle.merc_yard.specs.declared.spot.Purpose.TheVariants.{Ready, Waits, Forks, Free};
 ghost use Rattle.merc_yard.specs.Yards.{yard_table};
 ghost use Rattle.merc_yard.specs.Berths.{IsFilled, IsVacant, spot_of};
-ghost use Rattle.merc_stealing.specs.Spots.{used, parked_for, after};
-ghost use Rattle.merc_stealing.specs.Beds.{IsMoored};
-ghost use Rattle.merc_stealing.specs.Lying.{LiesIn, WaitsAt, ForksAt, ReadyAs, IsBusy, rights};
-ghost use Rattle.merc_stealing.specs.Owning.{spot_held, HasBerth, Runs, Own, Unmoored};
+ghost use Rattle.merc_held_branches.specs.Spots.{used, parked_for, after};
+ghost use Rattle.merc_held_branches.specs.Beds.{IsMoored};
+ghost use Rattle.merc_held_branches.specs.Lying.{LiesIn, WaitsAt, ForksAt, ReadyAs, IsBusy, rights};
+ghost use Rattle.merc_held_branches.specs.Owning.{spot_held, HasBerth, Runs, Own, Unmoored};
 
-use crate::branch::{Held, Lot, Moored};
 use merc_board::Load;
+use merc_held_branches::{Held, Lot, Moored};
 use merc_yard::{Berth, NextSpot};
 use std::marker::Brand;
 

@@ -1,11 +1,10 @@
 //! Rights that were taken out of a branch: they are to cells of the board.
 ghost use Rattle.std.specs.Prelude.{◌≡◌};
 ghost use Rattle.merc_cell.specs.Ends.{consumer_name, producer_name};
-ghost use Rattle.merc_stealing.specs.Beds.{IsNamed};
+ghost use Rattle.merc_held_branches.specs.Beds.{IsNamed};
 
-use crate::branch::{HeldSignal, HeldWait};
-use crate::seat::Room;
 use merc_board::Load;
+use merc_held_branches::{HeldSignal, HeldWait, Room};
 use std::marker::PhantomData;
 
 /// A right to wait.

@@ -8,15 +8,14 @@ ghost use Rattle.merc_yard.specs.declared.spot.Purpose.TheVariants.{Ready, Forks
 ghost use Rattle.merc_yard.specs.Yards.{yard_table};
 ghost use Rattle.merc_yard.specs.Berths.{IsVacant, spot_of};
 ghost use Rattle.merc_join.specs.Tickets.{ticket_parent, ticket_child, ticket_children};
-ghost use Rattle.merc_stealing.specs.Spots.{place, child_spot, fork_count};
-ghost use Rattle.merc_stealing.specs.Beds.{IsMoored};
-ghost use Rattle.merc_stealing.specs.Kids.{KidFits, AreMade};
+ghost use Rattle.merc_held_branches.specs.Spots.{place, child_spot, fork_count};
+ghost use Rattle.merc_held_branches.specs.Beds.{IsMoored};
+ghost use Rattle.merc_held_branches.specs.Kids.{KidFits, AreMade};
 
-use crate::branch::{Held, Lot};
 use crate::mooring::moor_ready;
-use crate::seat::{Room, Spark};
-use crate::types::Bed;
+use crate::seat::Spark;
 use merc_board::Load;
+use merc_held_branches::{Bed, Held, Lot, Room};
 use merc_join::Ticket;
 use merc_yard::{Berth, NextSpot};
 use std::marker::{Brand, PhantomData};

@@ -1,24 +1,12 @@
 //! The seats of workers, and the sparks in them.
 ghost use Rattle.merc_yard.specs.declared.spot.Fill.TheVariants.{Filled};
 ghost use Rattle.merc_yard.specs.declared.spot.Purpose.TheVariants.{Ready, Free};
-ghost use Rattle.merc_stealing.specs.Beds.{IsMoored};
+ghost use Rattle.merc_held_branches.specs.Beds.{IsMoored};
 
 use merc_deque::{Pass, Sparks};
+use merc_held_branches::Room;
 use merc_yard::Berth;
-use std::marker::{Brand, PhantomData};
-
-/// Which yard a board has. The call between the making of the yard and the opening of the board picks it.
-pub trait Room {
-    ghost use Rattle.atomic_table.specs.Seated.{TableId};
-
-    ghost table: { TableId };
-}
-
-impl Room for Brand {
-    ghost use Rattle.merc_yard.specs.Slots.{no_table};
-
-    ghost table = { no_table };
-}
+use std::marker::PhantomData;
 
 /// A berth of a board's yard in which a branch lies that can be run.
 #[derive(Drop)]

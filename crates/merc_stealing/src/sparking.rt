@@ -3,16 +3,16 @@ ghost use Rattle.merc_yard.specs.Yards.{yard_table};
 ghost use Rattle.std.specs.Prelude.{◌≡◌, ◌≢◌, ◌<◌, ℕ, Option, Some, None, IfSome, IfNone, length, slice_get};
 ghost use Rattle.crossbeam_deque.specs.Handles.{IsPassOf, stealer_deque, view, worker_view};
 ghost use Rattle.merc_deque.specs.History.{Emptied, HeldFew};
-ghost use Rattle.merc_stealing.specs.Lying.{LiesIn};
-ghost use Rattle.merc_stealing.specs.Owning.{Runs, IsTaken};
+ghost use Rattle.merc_held_branches.specs.Lying.{LiesIn};
+ghost use Rattle.merc_held_branches.specs.Owning.{Runs, IsTaken};
 ghost use Rattle.merc_stealing.specs.Seats.{ArePasses};
 ghost use Rattle.merc_stealing.specs.Stolen.{StoleNone};
 
-use crate::branch::{Held, Lot};
 use crate::mooring::{moor_ready, unmoor};
-use crate::seat::{Room, Seat, Spark};
+use crate::seat::{Seat, Spark};
 use merc_board::Load;
 use merc_deque::{Pass, Stolen, Thief};
+use merc_held_branches::{Held, Lot, Room};
 use std::marker::PhantomData;
 use std::sync::Wait;
 

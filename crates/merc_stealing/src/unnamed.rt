@@ -4,8 +4,8 @@ ghost use Rattle.merc_yard.specs.Yards.{yard_table};
 ghost use Rattle.merc_yard.specs.Slots.{nowhere};
 ghost use Rattle.merc_yard.specs.Berths.{IsVacant};
 
-use crate::branch::Lot;
 use merc_board::Load;
+use merc_held_branches::Lot;
 use merc_yard::Berth;
 
 /// What is made of a board before its yard has a name.

@@ -1,3 +1,1 @@
 mod HandingOver
-mod Stopping
-mod Coding

@@ -3,23 +3,15 @@
 #![tactic(auto)]
 
 #[cfg(test)]
-mod asking;
-#[cfg(test)]
 mod beside;
 #[cfg(test)]
 mod cells;
-#[cfg(test)]
-mod conjuncts;
-#[cfg(test)]
-mod driving;
 #[cfg(test)]
 mod executing;
 #[cfg(test)]
 mod joins;
 #[cfg(test)]
 mod outside;
-#[cfg(test)]
-mod rights;
 #[cfg(test)]
 mod sparks;
 #[cfg(test)]

@@ -1,5 +1,5 @@
-use Rattle.std.proofs.Common.{◌≡◌, ℕ, length}
-use Rattle.merc_stealing.specs.Kids.{HaveBerths}
+use Rattle.std.proofs.Common.{◌≡◌, length}
+use Rattle.merc_held_branches.specs.Kids.{HaveBerths}
 use Rattle.merc_stealing.proofs.making.drop_kids.Given as goal
 
 abbrev pub invariant-loop-kid : goal.invariant-loop-kid

@@ -1,9 +1,9 @@
-use Rattle.std.proofs.Common.{rules, arith, length, subst, sym, ap, ◌∙◌, ◌≡◌, ◌+◌, ◌++◌, [], ◌∷◌, refl}
+use Rattle.std.proofs.Common.{rules, subst, sym, ap, ◌∙◌, ◌≡◌, ◌++◌, [], refl}
 use Rattle.std.proofs.lemmas.List.{append_assoc, append-nil}
 use Rattle.merc_board.specs.Rights.{no_rights}
-use Rattle.merc_stealing.specs.Kids.{AreFor}
-use Rattle.merc_stealing.specs.Owning.{HasBerth}
-use Rattle.merc_stealing.proofs.Lists.{nothing, all_more}
+use Rattle.merc_held_branches.specs.Kids.{AreFor}
+use Rattle.merc_held_branches.specs.Owning.{HasBerth}
+use Rattle.merc_held_branches.proofs.Lists.{nothing, all_more}
 use Rattle.merc_stealing.proofs.Dealing.{one_more}
 use Rattle.merc_stealing.proofs.making.make_kids.Goals as goal
 

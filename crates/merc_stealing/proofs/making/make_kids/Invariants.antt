@@ -1,7 +1,7 @@
 use Rattle.std.proofs.Common.{◌≡◌, ◌≤◌, ◌++◌, length}
 use Rattle.std.specs.Vec.{vec_capacity}
 use Rattle.merc_board.specs.Rights.{no_rights}
-use Rattle.merc_stealing.specs.Kids.{AreFor, HaveBerths}
+use Rattle.merc_held_branches.specs.Kids.{AreFor, HaveBerths}
 use Rattle.merc_stealing.proofs.making.make_kids.Given as goal
 
 abbrev pub invariant-loop-load : goal.invariant-loop-load

@@ -1,6 +1,6 @@
 use Rattle.merc_yard.specs.declared.spot.Purpose.TheVariants.{Waits}
-use Rattle.merc_stealing.specs.Spots.{parked_for}
-use Rattle.merc_stealing.specs.Owning.{spot_held}
+use Rattle.merc_held_branches.specs.Spots.{parked_for}
+use Rattle.merc_held_branches.specs.Owning.{spot_held}
 use Rattle.merc_stealing.proofs.mooring.moor_waiting.Given as goal
 
 abbrev pub ghosts-moor_at : goal.ghosts-moor_at

@@ -1,4 +1,3 @@
-use Rattle.std.proofs.Common.{rules}
 use Rattle.merc_yard.specs.Berths.{spot_of}
 use Rattle.merc_stealing.proofs.mooring.unmoor.Goals as goal
 

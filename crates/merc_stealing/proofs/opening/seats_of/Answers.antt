@@ -1,6 +1,6 @@
 use Rattle.std.proofs.Common.{rules}
 use Rattle.merc_stealing.specs.Seats.{ArePasses}
-use Rattle.merc_stealing.proofs.Lists.{all_more}
+use Rattle.merc_held_branches.proofs.Lists.{all_more}
 use Rattle.merc_stealing.proofs.opening.seats_of.Goals as goal
 
 pub loop-sparks-preserved : goal.loop-sparks-preserved

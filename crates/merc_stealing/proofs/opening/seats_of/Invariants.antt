@@ -1,4 +1,4 @@
-use Rattle.std.proofs.Common.{◌≡◌, length}
+use Rattle.std.proofs.Common.{length}
 use Rattle.std.specs.List.{All}
 use Rattle.merc_yard.specs.Slots.{nowhere}
 use Rattle.merc_yard.specs.Yards.{yard_table}

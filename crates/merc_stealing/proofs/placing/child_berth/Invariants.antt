@@ -1,7 +1,7 @@
 use Rattle.std.specs.Prelude.{suc}
 use Rattle.merc_yard.specs.Berths.{spot_of}
 use Rattle.merc_join.specs.Tickets.{ticket_parent, ticket_child}
-use Rattle.merc_stealing.specs.Spots.{child_spot}
+use Rattle.merc_held_branches.specs.Spots.{child_spot}
 use Rattle.merc_stealing.proofs.placing.child_berth.Given as goal
 
 abbrev pub ghosts-move_as : goal.ghosts-move_as

@@ -1,13 +1,11 @@
-use Rattle.std.proofs.Common.{rules, arith, length, subst, sym, ap, [], ◌∷◌}
-use Rattle.std.proofs.lemmas.List.{length-append}
-use Rattle.atomic_table.specs.Seated.{TableId}
+use Rattle.std.proofs.Common.{rules, arith, subst, sym}
 use Rattle.merc_yard.specs.declared.spot.Fill.TheVariants.{Filled}
 use Rattle.merc_yard.specs.declared.spot.Purpose.TheVariants.{Forks}
 use Rattle.merc_join.specs.Tickets.{ticket_parent, ticket_child}
-use Rattle.merc_stealing.specs.Beds.{IsMoored}
-use Rattle.merc_stealing.specs.Kids.{KidFits}
+use Rattle.merc_held_branches.specs.Beds.{IsMoored}
+use Rattle.merc_held_branches.specs.Kids.{KidFits}
 use Rattle.merc_stealing.proofs.Dealing.{parts}
-use Rattle.merc_stealing.proofs.Lists.{longer}
+use Rattle.merc_held_branches.proofs.Lists.{longer}
 use Rattle.merc_stealing.proofs.placing.deal.Goals as goal
 
 pub place_child-requires-clause-kid : goal.place_child-requires-clause-kid

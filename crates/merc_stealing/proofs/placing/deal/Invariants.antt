@@ -1,6 +1,6 @@
 use Rattle.std.proofs.Common.{◌≡◌, ◌≤◌, ◌+◌, length}
 use Rattle.std.specs.Vec.{vec_capacity}
-use Rattle.merc_stealing.specs.Kids.{AreMade}
+use Rattle.merc_held_branches.specs.Kids.{AreMade}
 use Rattle.merc_stealing.proofs.placing.deal.Given as goal
 
 abbrev pub invariant-loop-ticket : goal.invariant-loop-ticket

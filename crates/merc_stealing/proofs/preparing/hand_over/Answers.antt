@@ -1,8 +1,8 @@
-use Rattle.std.proofs.Common.{rules, ◌≡◌, ◌∙◌, ◌++◌, sym, refl}
+use Rattle.std.proofs.Common.{◌∙◌, ◌++◌, sym, refl}
 use Rattle.merc_board.specs.Rights.{waits_kept, signals_kept}
-use Rattle.merc_stealing.specs.Lying.{rights}
-use Rattle.merc_stealing.specs.Owning.{spot_held}
-use Rattle.merc_stealing.specs.Sharing.{cells_ahead, own_rights}
+use Rattle.merc_held_branches.specs.Lying.{rights}
+use Rattle.merc_held_branches.specs.Owning.{spot_held}
+use Rattle.merc_held_branches.specs.Sharing.{cells_ahead, own_rights}
 use Rattle.merc_stealing.proofs.ForkLaws.{joins}
 use Rattle.merc_stealing.proofs.preparing.hand_over.Goals as goal
 

@@ -2,8 +2,8 @@ use Rattle.std.proofs.Common.{rules, subst, sym}
 use Rattle.merc_yard.specs.Yards.{yard_table}
 use Rattle.merc_yard.specs.declared.spot.Fill.TheVariants.{Filled}
 use Rattle.merc_yard.specs.declared.spot.Purpose.TheVariants.{Forks}
-use Rattle.merc_stealing.specs.Beds.{IsMoored}
-use Rattle.merc_stealing.specs.Owning.{Runs}
+use Rattle.merc_held_branches.specs.Beds.{IsMoored}
+use Rattle.merc_held_branches.specs.Owning.{Runs}
 use Rattle.merc_stealing.proofs.Dealing.{made_of}
 use Rattle.merc_stealing.proofs.Naming.{runs_behind}
 use Rattle.merc_stealing.proofs.ForkLaws.{all_named}

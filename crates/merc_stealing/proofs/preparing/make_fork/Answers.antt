@@ -1,6 +1,6 @@
-use Rattle.std.proofs.Common.{rules, arith, ◌≡◌, ◌∙◌, ◌+◌, ◌*◌, ℕ, length, subst}
+use Rattle.std.proofs.Common.{arith, ◌≡◌, ◌∙◌, ◌+◌, ◌*◌, ℕ, length, subst}
 use Rattle.merc_board.specs.Rights.{no_rights}
-use Rattle.merc_stealing.specs.Kids.{AreFor}
+use Rattle.merc_held_branches.specs.Kids.{AreFor}
 use Rattle.merc_stealing.proofs.preparing.make_fork.Goals as goal
 
 pub returns-in-Ok-clause-made : goal.returns-in-Ok-clause-made

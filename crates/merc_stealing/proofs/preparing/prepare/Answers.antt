@@ -1,6 +1,6 @@
-use Rattle.std.proofs.Common.{rules, arith, ◌≡◌, ◌∙◌, ℕ, length, sym, subst}
-use Rattle.merc_stealing.specs.Owning.{spot_held}
-use Rattle.merc_stealing.specs.Sharing.{cells_ahead}
+use Rattle.std.proofs.Common.{◌≡◌, length, sym, subst}
+use Rattle.merc_held_branches.specs.Owning.{spot_held}
+use Rattle.merc_held_branches.specs.Sharing.{cells_ahead}
 use Rattle.merc_stealing.proofs.ForkLaws.{ahead_count}
 use Rattle.merc_stealing.proofs.preparing.prepare.Goals as goal
 

@@ -1,10 +1,10 @@
 use Rattle.std.proofs.Common.{rules, ◌∷◌, [], ◌∙◌, sym, ap, refl, subst}
 use Rattle.std.specs.List.{All}
 use Rattle.merc_cell.specs.Ends.{consumer_name, producer_name}
-use Rattle.merc_stealing.specs.Beds.{IsNamed}
-use Rattle.merc_stealing.specs.Lying.{AreNamed}
-use Rattle.merc_stealing.specs.Owning.{HasBerth}
-use Rattle.merc_stealing.proofs.Lists.{all_at, all_front}
+use Rattle.merc_held_branches.specs.Beds.{IsNamed}
+use Rattle.merc_held_branches.specs.Lying.{AreNamed}
+use Rattle.merc_held_branches.specs.Owning.{HasBerth}
+use Rattle.merc_held_branches.proofs.Lists.{all_at, all_front}
 use Rattle.merc_stealing.proofs.preparing.take_back.Goals as goal
 
 pub take_rights-requires-clause-from : goal.take_rights-requires-clause-from

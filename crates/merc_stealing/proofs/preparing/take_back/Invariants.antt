@@ -1,8 +1,8 @@
-use Rattle.std.proofs.Common.{◌≡◌, ℕ, length}
+use Rattle.std.proofs.Common.{◌≡◌, length}
 use Rattle.std.specs.List.{All}
-use Rattle.merc_stealing.specs.Lying.{AreNamed}
-use Rattle.merc_stealing.specs.Owning.{Runs}
-use Rattle.merc_stealing.specs.Kids.{HaveBerths}
+use Rattle.merc_held_branches.specs.Lying.{AreNamed}
+use Rattle.merc_held_branches.specs.Owning.{Runs}
+use Rattle.merc_held_branches.specs.Kids.{HaveBerths}
 use Rattle.merc_stealing.proofs.preparing.take_back.Given as goal
 
 abbrev pub invariant-loop-kid : goal.invariant-loop-kid

@@ -1,7 +1,7 @@
-use Rattle.std.proofs.Common.{ℕ, length}
+use Rattle.std.proofs.Common.{length}
 use Rattle.std.specs.List.{All}
 use Rattle.merc_cell.specs.Ends.{producer_name}
-use Rattle.merc_stealing.specs.Beds.{IsNamed}
+use Rattle.merc_held_branches.specs.Beds.{IsNamed}
 use Rattle.merc_stealing.proofs.preparing.take_signals.Given as goal
 
 abbrev pub invariant-loop-right : goal.invariant-loop-right

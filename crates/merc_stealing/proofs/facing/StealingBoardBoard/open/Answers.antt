@@ -1,5 +1,5 @@
 use Rattle.merc_stealing.specs.Seats.{ArePasses}
-use Rattle.merc_stealing.proofs.Lists.{all_front}
+use Rattle.merc_held_branches.proofs.Lists.{all_front}
 use Rattle.merc_stealing.proofs.facing.StealingBoardBoard.open.Goals as goal
 
 pub returns-in-Some-clause-others : goal.returns-in-Some-clause-others

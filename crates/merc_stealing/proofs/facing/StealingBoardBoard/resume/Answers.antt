@@ -1,8 +1,8 @@
-use Rattle.std.proofs.Common.{rules, subst, ap, ◌∙◌, ◌≡◌, true}
+use Rattle.std.proofs.Common.{subst, ap, ◌∙◌, ◌≡◌, true}
 use Rattle.merc_script.specs.Places.{left_of}
 use Rattle.merc_board.specs.Going.{next}
 use Rattle.merc_stealing.specs.Memory.{has_memory}
-use Rattle.merc_stealing.specs.Owning.{Own}
+use Rattle.merc_held_branches.specs.Owning.{Own}
 use Rattle.merc_stealing.proofs.HandLaws.{resumed}
 use Rattle.merc_stealing.proofs.Forming.{children_keep}
 use Rattle.merc_stealing.proofs.facing.StealingBoardBoard.resume.Goals as goal

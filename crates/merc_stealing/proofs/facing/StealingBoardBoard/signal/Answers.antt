@@ -1,4 +1,4 @@
-use Rattle.std.proofs.Common.{rules, subst, sym}
+use Rattle.std.proofs.Common.{subst, sym}
 use Rattle.merc_stealing.specs.Seats.{ArePasses}
 use Rattle.merc_stealing.proofs.Reaching.{signal_own}
 use Rattle.merc_stealing.proofs.facing.StealingBoardBoard.signal.Goals as goal

@@ -1,0 +1,13 @@
+pub mod Faces
+pub mod Parts
+pub mod Finding
+pub mod Handing
+pub mod Renaming
+pub mod Looking
+pub mod Siting
+pub mod Holding
+pub mod LookingNodes
+pub mod Keeping
+pub mod DealingAt
+pub mod Runs
+pub mod Accepted

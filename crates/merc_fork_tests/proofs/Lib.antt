@@ -1,0 +1,2 @@
+mod Coding
+mod Stopping

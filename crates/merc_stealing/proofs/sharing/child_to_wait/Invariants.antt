@@ -1,6 +1,0 @@
-use Rattle.std.proofs.Common.{◌≡◌, false, drop}
-use Rattle.merc_board.specs.Rights.{child_for}
-use Rattle.merc_stealing.proofs.sharing.child_to_wait.Given as goal
-
-abbrev pub invariant-loop-one : goal.invariant-loop-one
-invariant-loop-one l = child_for false l.variable (drop l.one-index l.given) ≡ child_for false l.variable l.given
