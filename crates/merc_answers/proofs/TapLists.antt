@@ -107,3 +107,8 @@ room_stays kind state events olds news limit saw few =
     let kept = fails_last events (state (get_or olds place other)) (state (get_or news place other)) told.saw still in
     let room = few place other within kept.0 in
     omega (arith, room, kept.1)
+
+-- the same events in other words
+pub taps_same : {T K : Type 0} (kind : T → K) (state : T → TapState) (events others : List TapEvent) (olds news : List T) → events ≡ others → TapsSaw kind state events olds news
+    → TapsSaw kind state others olds news
+taps_same kind state events others olds news same saw = subst (λ (all : List TapEvent). TapsSaw kind state all olds news) same saw

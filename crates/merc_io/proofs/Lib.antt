@@ -4,3 +4,4 @@ pub mod OpenFiles
 pub mod Reading
 pub mod ShelvesExamples
 pub mod SinksExamples
+pub mod TapsExamples

@@ -1,3 +1,4 @@
 pub mod Numbers
 pub mod Shelves
 pub mod Sinks
+pub mod Taps

@@ -14,3 +14,5 @@ mod joins;
 mod outside;
 #[cfg(test)]
 mod sparks;
+#[cfg(test)]
+mod taps;
