@@ -1,0 +1,17 @@
+mod Alone
+mod Backs
+mod Begun
+mod BehindForks
+mod Counters
+mod Ends
+mod Forks
+mod Lists
+mod Living
+mod Mapped
+mod Meetings
+mod Ran
+mod SharesMade
+mod Slots
+mod TellingExamples
+mod Told
+mod Workers

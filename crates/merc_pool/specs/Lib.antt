@@ -1,0 +1,10 @@
+pub mod Shares
+pub mod Carrying
+pub mod Running
+pub mod Asking
+pub mod Telling
+pub mod Hands
+pub mod Forking
+pub mod Ending
+pub mod Working
+pub mod Sessions
