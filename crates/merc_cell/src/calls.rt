@@ -1,12 +1,11 @@
 //! How a cell is made, and the calls of its two ends.
 ghost use Rattle.std.specs.Prelude.{◌≡◌, [], ◌∷◌, IfOk};
 ghost use Rattle.merc_cell.specs.declared.glance.Slot.TheVariants.{Empty};
-ghost use Rattle.merc_cell.specs.declared.glance.Glance.{Glance};
 ghost use Rattle.merc_cell.specs.Answers.{IsWaited, IsSignalled, IsPoisoned};
-ghost use Rattle.merc_cell.specs.Ends.{producer_name, consumer_name};
+ghost use Rattle.merc_cell.specs.Ends.{producer_name, consumer_name, producer_table, consumer_table, spent_table, spent_view};
 
 use crate::answer::CellWait;
-use crate::ends::{Consumer, Producer};
+use crate::ends::{Consumer, Producer, Spent};
 use crate::glance::Slot;
 use crate::rule::{CellName, Fits, Sides};
 use crate::steps::{poison_on, signal_on, wait_on};
@@ -32,7 +31,8 @@ fn two_slots<V: Drop, W: Drop>(alloc: Global) -> Result<Vec<Slot<V, W>>, NoMemor
 pub fn new_cell<V: Fits + Drop, W: Fits + Drop, N: CellName>(
     alloc: Global,
 ) -> Result<(Producer<V, W>, Consumer<V, W>), NoMemory>
-    ensures { IfOk result (λ ends. (producer_name ends.0 ≡ N.name) × (consumer_name ends.1 ≡ N.name)) }
+    ensures names { IfOk result (λ ends. (producer_name ends.0 ≡ N.name) × (consumer_name ends.1 ≡ N.name)) }
+    ensures one_cell { IfOk result (λ ends. producer_table ends.0 ≡ consumer_table ends.1) }
 {
     let Ok((table, mut consumer)) = Table::new(alloc, &[0], two_slots(alloc)?, &()) else {
         return Err(NoMemory);
@@ -54,31 +54,40 @@ pub fn new_cell<V: Fits + Drop, W: Fits + Drop, N: CellName>(
 
 impl<V: Fits + Drop, W: Fits + Drop> Consumer<V, W> {
     /// Waits for the value. Whoever comes second is handed the waiter, so it comes back here unless the answer is
-    /// `Parked`.
-    pub fn wait(self, waiter: W) -> CellWait<V, W>
+    /// `Parked`. The seat that waited comes back: its one step found the cell full at `Ready`, poisoned at `Starved`,
+    /// and neither at `Parked`.
+    pub fn wait(self, waiter: W) -> (CellWait<V, W>, Spent<V, W>)
         requires { W.fits (consumer_name self) waiter }
-        ensures { (view : Glance V W) × IsWaited V.fits (consumer_name self) waiter view result }
+        ensures table { spent_table result.1 ≡ consumer_table self }
+        ensures waited { IsWaited V.fits (consumer_name self) waiter (spent_view result.1) result.0 }
     {
         let Consumer { table, mut seat } = self;
-        wait_on(&table.shared, &mut seat, waiter)
+        let answer = wait_on(&table.shared, &mut seat, waiter);
+        (answer, Spent { seat })
     }
 }
 
 impl<V: Fits + Drop, W: Fits + Drop> Producer<V, W> {
-    /// Puts the value. Where the consumer had come its waiter is given, with the value.
-    pub fn signal(self, value: V) -> Option<(W, V)>
+    /// Puts the value. Where the consumer had come its waiter is given, with the value. The seat that signalled comes
+    /// back: nothing is given only where its one step found that the consumer had not come.
+    pub fn signal(self, value: V) -> (Option<(W, V)>, Spent<V, W>)
         requires { V.fits (producer_name self) value }
-        ensures { (view : Glance V W) × IsSignalled W.fits (producer_name self) value view result }
+        ensures table { spent_table result.1 ≡ producer_table self }
+        ensures signalled { IsSignalled W.fits (producer_name self) value (spent_view result.1) result.0 }
     {
         let Producer { table, mut seat } = self;
-        signal_on(&table.shared, &mut seat, value)
+        let given = signal_on(&table.shared, &mut seat, value);
+        (given, Spent { seat })
     }
 
-    /// Ends without a value. Where the consumer had come its waiter is given.
-    pub fn poison(self) -> Option<W>
-        ensures { (view : Glance V W) × IsPoisoned W.fits (producer_name self) view result }
+    /// Ends without a value. Where the consumer had come its waiter is given. The seat comes back: nothing is given only
+    /// where its one step found that the consumer had not come.
+    pub fn poison(self) -> (Option<W>, Spent<V, W>)
+        ensures table { spent_table result.1 ≡ producer_table self }
+        ensures poisoned { IsPoisoned W.fits (producer_name self) (spent_view result.1) result.0 }
     {
         let Producer { table, mut seat } = self;
-        poison_on(&table.shared, &mut seat)
+        let given = poison_on(&table.shared, &mut seat);
+        (given, Spent { seat })
     }
 }

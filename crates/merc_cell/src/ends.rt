@@ -26,3 +26,9 @@ pub struct Producer<V: Fits, W: Fits> {
     pub(crate) seat: Seat<Slot<V, W>, Glance<V, W>>,
     ghost seated: { IsSeated seat.table_id table.value.shared.table_id × IsBegun false seat.me },
 }
+
+/// The seat of an end that has made its step. Nothing can be done with it: it tells contracts what the step found.
+#[derive(Drop)]
+pub struct Spent<V, W> {
+    pub(crate) seat: Seat<Slot<V, W>, Glance<V, W>>,
+}

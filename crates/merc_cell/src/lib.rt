@@ -11,5 +11,5 @@ pub mod steps;
 
 pub use answer::CellWait;
 pub use calls::new_cell;
-pub use ends::{Consumer, Producer};
+pub use ends::{Consumer, Producer, Spent};
 pub use rule::{CellName, Fits};

@@ -52,7 +52,7 @@ fn take_waiter<V: Fits, W: Fits>(word: &Word<V, W>, seat: &mut CellSeat<V, W>) -
 
 fn take_value<V: Fits, W: Fits>(word: &Word<V, W>, seat: &mut CellSeat<V, W>) -> V
     requires { IsSeated seat.old.table_id word.now.table_id × IsAt TookWaiter seat.old.me.0 × (seat.old.me.0.end ≡ Full) }
-    ensures seat { seat.new.me.0 ≡ glance seat.old.me.0.name seat.old.me.0.consumer TookBoth seat.old.me.0.end seat.old.me.0.put }
+    ensures seat { (seat.new.table_id ≡ seat.old.table_id) × (seat.new.me.0 ≡ glance seat.old.me.0.name seat.old.me.0.consumer TookBoth seat.old.me.0.end seat.old.me.0.put) }
     ensures value { V.fits seat.old.me.0.name result }
     ensures own { seat.old.me.0.consumer ≡ false → seat.old.me.0.put ≡ Value result }
 {
@@ -72,7 +72,8 @@ pub fn wait_on<V: Fits + Drop, W: Fits + Drop>(
 ) -> CellWait<V, W>
     requires seat { IsSeated seat.old.table_id word.now.table_id × IsBegun true seat.old.me }
     requires fits { W.fits seat.old.me.0.name waiter }
-    ensures { IsWaited V.fits seat.old.me.0.name waiter seat.new.me.0 result }
+    ensures table { seat.new.table_id ≡ seat.old.table_id }
+    ensures waited { IsWaited V.fits seat.old.me.0.name waiter seat.new.me.0 result }
 {
     word.load::<Grab>(seat, 0);
     drop_empty(word.exchange(seat, WAITER, Slot::Waiter(waiter)));
@@ -97,7 +98,8 @@ pub fn signal_on<V: Fits + Drop, W: Fits + Drop>(
 ) -> Option<(W, V)>
     requires seat { IsSeated seat.old.table_id word.now.table_id × IsBegun false seat.old.me }
     requires fits { V.fits seat.old.me.0.name value }
-    ensures { IsSignalled W.fits seat.old.me.0.name value seat.new.me.0 result }
+    ensures table { seat.new.table_id ≡ seat.old.table_id }
+    ensures signalled { IsSignalled W.fits seat.old.me.0.name value seat.new.me.0 result }
 {
     word.load::<Grab>(seat, 0);
     drop_empty(word.exchange(seat, VALUE, Slot::Value(value)));
@@ -112,7 +114,8 @@ pub fn signal_on<V: Fits + Drop, W: Fits + Drop>(
 /// Sets the bit of a poisoned cell. Where the consumer had come its waiter is taken.
 pub fn poison_on<V: Fits, W: Fits>(word: &Word<V, W>, seat: &mut CellSeat<V, W>) -> Option<W>
     requires { IsSeated seat.old.table_id word.now.table_id × IsBegun false seat.old.me }
-    ensures { IsPoisoned W.fits seat.old.me.0.name seat.new.me.0 result }
+    ensures table { seat.new.table_id ≡ seat.old.table_id }
+    ensures poisoned { IsPoisoned W.fits seat.old.me.0.name seat.new.me.0 result }
 {
     let found = word.fetch_or::<Spoils>(seat, 0, POISON);
     if found != WAIT {

@@ -20,3 +20,9 @@ pub struct Ticket<P: Forked> {
     ghost seated: { IsSeated seat.table_id table.value.shared.table_id × IsBegun child seat.me },
     ghost within: { (child + 1 < table.value.shared.table_id.slots) × (table.value.shared.table_id.slots ≤ most_children + 1) },
 }
+
+/// The seat of a ticket that is done. Nothing can be done with it: it tells contracts what its step found.
+#[derive(Drop)]
+pub struct SpentTicket<P> {
+    pub(crate) seat: Seat<Slot<P>, Stub<P>>,
+}

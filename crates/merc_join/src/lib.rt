@@ -10,7 +10,7 @@ pub mod rule;
 pub mod steps;
 pub mod stub;
 
-pub use ends::Ticket;
+pub use ends::{SpentTicket, Ticket};
 pub use making::new_join;
 pub use outcomes::{Finished, Outcomes};
 pub use rule::Forked;

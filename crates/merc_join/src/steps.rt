@@ -53,7 +53,7 @@ fn take_outcomes<P: Forked>(word: &Word<P>, seat: &mut JoinSeat<P>, children: us
 
 fn take_parent<P: Forked>(word: &Word<P>, seat: &mut JoinSeat<P>, children: usize) -> P
     requires { IsSeated seat.old.table_id word.now.table_id × (seat.old.me.0.stage ≡ Last) × (seat.old.me.0.taken ≡ children) × (children + 1 ≡ word.now.table_id.slots) }
-    ensures seat { seat.new.me.0 ≡ stub seat.old.me.0.parent seat.old.me.0.child seat.old.me.0.many Over seat.old.me.0.put children }
+    ensures seat { (seat.new.table_id ≡ seat.old.table_id) × (seat.new.me.0 ≡ stub seat.old.me.0.parent seat.old.me.0.child seat.old.me.0.many Over seat.old.me.0.put children) }
     ensures parent { result ≡ seat.old.me.0.parent }
 {
     word.load::<TakeParent>(seat, 0);
@@ -74,7 +74,8 @@ pub fn done_on<P: Forked + Drop>(
     requires seat { IsSeated seat.old.table_id word.now.table_id × IsBegun child seat.old.me }
     requires children { (child < children) × (children + 1 ≡ word.now.table_id.slots) × (children ≤ most_children) }
     requires end { P.ends seat.old.me.0.parent child outcome }
-    ensures { IsDone P.ends seat.old.me.0.parent child children outcome seat.new.me.0 result }
+    ensures table { seat.new.table_id ≡ seat.old.table_id }
+    ensures done { IsDone P.ends seat.old.me.0.parent child children outcome seat.new.me.0 result }
 {
     word.load::<Grab>(seat, 0);
     drop_empty(word.exchange(seat, child, Slot::Ended(outcome)));

@@ -1,4 +1,4 @@
--- Parents behind their children.
+-- Parents behind their children. And what the end of a child found.
 use Rattle.std.specs.Prelude.{◌≡◌, ℕ, List, Option, Some, None, length, slice_get, ⊤, false}
 use Rattle.merc_value.specs.Block.{BlockData}
 use Rattle.merc_script.specs.declared.outcome.Outcome.{Outcome}
@@ -7,6 +7,11 @@ use Rattle.merc_script.specs.Script.{Script, ForkThen, Children, Cell, Move, end
 use Rattle.merc_script.specs.Places.{Place, left_of}
 use Rattle.merc_script.specs.Joining.{joined, lacks_memory}
 use Rattle.atomic_table.specs.Seated.{TableId}
+use Rattle.merc_join.specs.declared.stub.Stage.{Stage}
+use Rattle.merc_join.specs.declared.stub.Stage.TheVariants.{Stopped, Over}
+use Rattle.merc_join.specs.declared.ends.Ticket.{Ticket}
+use Rattle.merc_join.specs.declared.ends.SpentTicket.{SpentTicket}
+use Rattle.merc_join.specs.Tickets.{ticket_child, ticket_table, spent_table, spent_view}
 use Rattle.merc_yard.specs.declared.berth.Berth.{Berth}
 use Rattle.merc_yard.specs.declared.spot.Spot.{Spot}
 use Rattle.merc_yard.specs.declared.spot.Fill.TheVariants.{Filled}
@@ -56,3 +61,20 @@ module _ {L : Type 0} (root : Script) (stands awaits forked : L → Rights → P
     pub fork : Spot
     pub holds : HoldsAt root table fork branch.hold
     pub forks : ForksAt root stands awaits forked shows branch.load (rights branch.hold) branch.hold.limit (place root fork)
+
+module _ {P : Type 0} where
+  -- the seat of this ticket, which has come so far
+  abbrev pub HasCome : Stage → Ticket P → SpentTicket P → Type 0
+  HasCome stage ticket spent = (spent_table spent ≡ ticket_table ticket) × ((spent_view spent).child ≡ ticket_child ticket) × ((spent_view spent).stage ≡ stage)
+
+  -- the one step of the ticket's seat found others of the join still to come. The root has no ticket
+  abbrev pub OthersAreToCome : Option (Ticket P) → Option (SpentTicket P) → Type 0
+  OthersAreToCome None spent = Unit {0}
+  OthersAreToCome (Some ticket) None = ⊥
+  OthersAreToCome (Some ticket) (Some spent) = HasCome Stopped ticket spent
+
+  -- it found that all others had come
+  abbrev pub AllHaveCome : Option (Ticket P) → Option (SpentTicket P) → Type 0
+  AllHaveCome None spent = ⊥
+  AllHaveCome (Some ticket) None = ⊥
+  AllHaveCome (Some ticket) (Some spent) = HasCome Over ticket spent

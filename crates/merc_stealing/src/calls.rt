@@ -9,7 +9,7 @@ ghost use Rattle.merc_yard.specs.declared.spot.Fill.TheVariants.{Filled};
 ghost use Rattle.merc_yard.specs.declared.spot.Purpose.TheVariants.{Waits};
 ghost use Rattle.merc_yard.specs.Berths.{spot_of};
 ghost use Rattle.merc_yard.specs.Yards.{yard_table};
-ghost use Rattle.merc_cell.specs.Ends.{consumer_name, producer_name};
+ghost use Rattle.merc_cell.specs.Ends.{consumer_name, consumer_table, producer_name, spent_table, spent_view};
 ghost use Rattle.merc_board.specs.Going.{next};
 ghost use Rattle.merc_held_branches.specs.Spots.{place};
 ghost use Rattle.merc_held_branches.specs.Beds.{IsMoored, IsNamed, cell_named};
@@ -17,8 +17,8 @@ ghost use Rattle.merc_held_branches.specs.Lying.{MayWake, rights};
 ghost use Rattle.merc_held_branches.specs.Owning.{Runs, Own, IsTaken, MayEnd};
 ghost use Rattle.merc_stealing.specs.Seats.{ArePasses};
 ghost use Rattle.merc_stealing.specs.Taking.{TookNone};
-ghost use Rattle.merc_stealing.specs.Waiting.{IsWaitedAs};
-ghost use Rattle.merc_stealing.specs.Parents.{IsParent, HoldsAt, IsJoin, AreEnds};
+ghost use Rattle.merc_stealing.specs.Waiting.{IsWaitedAs, HasCause};
+ghost use Rattle.merc_stealing.specs.Parents.{IsParent, HoldsAt, IsJoin, AreEnds, OthersAreToCome, AllHaveCome};
 
 use crate::board::StealingBoard;
 use crate::children::Children;
@@ -27,9 +27,9 @@ use crate::mooring::{moor_ready, moor_waiting, unmoor};
 use crate::seat::{Seat, Spark};
 use crate::sparking::{pop_spark, push_spark, steal_spark, take_spark};
 use merc_board::{Load, Waited, Woken};
-use merc_cell::CellWait;
+use merc_cell::{CellWait, Spent};
 use merc_held_branches::{Bed, Given, Held, HeldSignal, HeldWait, Hold, Lot, Room};
-use merc_join::Finished;
+use merc_join::{Finished, SpentTicket};
 use merc_script::{Outcome, join_next};
 use merc_value::Block;
 use std::marker::PhantomData;
@@ -106,21 +106,29 @@ impl<M: Load, N: Room> StealingBoard<M, N> {
         }
     }
 
-    pub(crate) fn wait(&self, right: HeldWait<M>, branch: Held<M>) -> Waited<M, Hold<M>>
+    // The seat that waited comes back, which knows why this is the answer.
+    pub(crate) fn wait(
+        &self,
+        right: HeldWait<M>,
+        branch: Held<M>,
+    ) -> (Waited<M, Hold<M>>, Spent<Given<M>, Bed<M>>)
         requires named { IsNamed N.table (consumer_name right.end) }
         requires waits { (at : Place) × (rest : Script) × Own M.root N.table branch.value.hold at × (left_of at ≡ Some (WaitThen (cell_named (consumer_name right.end)) rest)) × M.awaits branch.value.load (rights branch.value.hold) at }
-        ensures { IsWaitedAs M.root M.stands M.awaits M.forked M.shows N.table result }
+        ensures waited { IsWaitedAs M.root M.stands M.awaits M.forked M.shows N.table result.0 }
+        ensures cause { (spent_table result.1 ≡ consumer_table right.end) × HasCause (spent_view result.1) result.0 }
     {
         let HeldWait { variable: _, end } = right;
         let berth = moor_waiting(&self.lot, branch);
-        match end.wait(Bed {
+        let (answer, spent) = end.wait(Bed {
             berth,
             of: PhantomData,
-        }) {
+        });
+        let waited = match answer {
             CellWait::Ready(bed, given) => Waited::Ready(unmoor(&self.lot, bed.berth), given.value),
             CellWait::Starved(bed) => Waited::Starved(unmoor(&self.lot, bed.berth)),
             CellWait::Parked => Waited::Parked,
-        }
+        };
+        (waited, spent)
     }
 
     pub(crate) fn signal(&self, seat: &mut Seat<N>, right: HeldSignal<M>, value: Block)
@@ -133,10 +141,11 @@ impl<M: Load, N: Room> StealingBoard<M, N> {
             consumer: _,
             end,
         } = right;
-        if let Some((bed, given)) = end.signal(Given {
+        let (woken, _) = end.signal(Given {
             value,
             of: PhantomData,
-        }) {
+        });
+        if let Some((bed, given)) = woken {
             wake(&self.lot, seat, bed, Woken::Value(given.value));
         }
     }
@@ -154,21 +163,25 @@ impl<M: Load, N: Room> StealingBoard<M, N> {
                 consumer: _,
                 end,
             } = right;
-            if let Some(bed) = end.poison() {
+            let (woken, _) = end.poison();
+            if let Some(bed) = woken {
                 wake(&self.lot, seat, bed, Woken::Starved);
             }
         }
     }
 
+    // The seat of the branch's ticket comes back, which knows whether others are to come.
     pub(crate) fn end(
         &self,
         seat: &mut Seat<N>,
         mut branch: Held<M>,
         outcome: Outcome,
-    ) -> Option<Held<M>>
+    ) -> (Option<Held<M>>, Option<SpentTicket<Bed<M>>>)
         requires { MayEnd (Own M.root N.table branch.value.hold) (Runs M.root N.table branch.value.hold) outcome }
         ensures seat { seat.new.passes ≡ seat.old.passes }
-        ensures some { IfSome result (λ parent. IsParent M.root M.stands M.awaits M.forked M.shows N.table parent.value) }
+        ensures some { IfSome result.0 (λ parent. IsParent M.root M.stands M.awaits M.forked M.shows N.table parent.value) }
+        ensures last { IfSome result.0 (λ _. AllHaveCome branch.value.hold.place result.1) }
+        ensures none { IfNone result.0 (OthersAreToCome branch.value.hold.place result.1) }
     {
         self.poison(seat, &mut branch.hold);
         if let Some(berth) = branch.hold.berth.take() {
@@ -177,14 +190,15 @@ impl<M: Load, N: Room> StealingBoard<M, N> {
         match branch.hold.place.take() {
             Some(ticket) => {
                 let_go(branch);
-                match ticket.done(outcome) {
-                    Some(finished) => Some(self.come_back(finished)),
-                    None => None,
+                let (given, spent) = ticket.done(outcome);
+                match given {
+                    Some(finished) => (Some(self.come_back(finished)), Some(spent)),
+                    None => (None, Some(spent)),
                 }
             }
             None => {
                 let_go(branch);
-                None
+                (None, None)
             }
         }
     }

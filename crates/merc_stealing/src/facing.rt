@@ -156,7 +156,7 @@ impl<M: Load + Send + Sync, N: Room + Send + Sync> Board<M> for StealingBoard<M,
         ensures count { KeepsCount {S = _} (λ _ _. Unit {0}) (λ _. Unit {0}) _seat.old _seat.new }
     {
         let NamedWait { right, of: _ } = right;
-        StealingBoard::wait(self, right, branch)
+        StealingBoard::wait(self, right, branch).0
     }
 
     fn signal<R: Wait>(&self, _rt: &R, seat: &mut Seat<N>, right: NamedSignal<M, N>, value: Block) {
@@ -176,7 +176,7 @@ impl<M: Load + Send + Sync, N: Room + Send + Sync> Board<M> for StealingBoard<M,
         ensures some { IfSome result (λ p. (at : Place) × HoldsOf M.root N.table self.now.thieves.items seat.new.passes.items p.value.hold at × M.forked p.value.load (rights_of p.value.hold) at) }
         ensures count { KeepsCount {S = _} (λ _ _. Unit {0}) (λ _. Unit {0}) seat.old seat.new }
     {
-        StealingBoard::end(self, seat, branch, outcome)
+        StealingBoard::end(self, seat, branch, outcome).0
     }
 
     fn resume<R: Wait>(&self, _rt: &R, _seat: &mut Seat<N>, hold: &mut Hold<M>) -> Resumed {

@@ -76,7 +76,8 @@ fn wait_all(mut consumers: Vec<Consumer<Number, Number>>) -> Counts {
     let mut counts = Counts::none();
     for i in 0..consumers.len() {
         if let Some(consumer) = consumers.pop() {
-            match consumer.wait(Number(consumers.len() as u64)) {
+            let (answer, _) = consumer.wait(Number(consumers.len() as u64));
+            match answer {
                 CellWait::Ready(Number(waiter), Number(value)) => {
                     counts = counts.add(waiter, Some(value))
                 }
@@ -95,13 +96,15 @@ fn end_all(mut producers: Vec<Producer<Number, Number>>) -> Counts {
         if let Some(producer) = producers.pop() {
             let number = producers.len() as u64;
             if number % 2 == 0 {
-                if let Some((Number(waiter), Number(value))) = producer.signal(Number(
-                    number.wrapping_mul(2),
-                )) {
+                let (given, _) = producer.signal(Number(number.wrapping_mul(2)));
+                if let Some((Number(waiter), Number(value))) = given {
                     counts = counts.add(waiter, Some(value));
                 }
-            } else if let Some(Number(waiter)) = producer.poison() {
-                counts = counts.add(waiter, None);
+            } else {
+                let (given, _) = producer.poison();
+                if let Some(Number(waiter)) = given {
+                    counts = counts.add(waiter, None);
+                }
             }
         }
     }
@@ -117,19 +120,16 @@ fn meet<R: Threads + Sync>(rt: &R, ends: Ends) -> Counts {
 
 // Whether a wait at a cell that was poisoned before starves.
 fn starves(producer: Producer<Number, Number>, consumer: Consumer<Number, Number>) -> bool {
-    let got_nothing = producer.poison().is_none();
-    let is_starved = matches!(consumer.wait(Number(7)), CellWait::Starved(Number(7)));
-    got_nothing && is_starved
+    let (given, _) = producer.poison();
+    let (answer, _) = consumer.wait(Number(7));
+    given.is_none() && matches!(answer, CellWait::Starved(Number(7)))
 }
 
 // Whether a wait at a cell that was signalled before has the value.
 fn is_ready(producer: Producer<Number, Number>, consumer: Consumer<Number, Number>) -> bool {
-    let got_nothing = producer.signal(Number(8)).is_none();
-    let has_value = matches!(
-        consumer.wait(Number(7)),
-        CellWait::Ready(Number(7), Number(8))
-    );
-    got_nothing && has_value
+    let (given, _) = producer.signal(Number(8));
+    let (answer, _) = consumer.wait(Number(7));
+    given.is_none() && matches!(answer, CellWait::Ready(Number(7), Number(8)))
 }
 
 // No clause speaks of two threads at once, nor of what the producer did before a wait on the same thread.

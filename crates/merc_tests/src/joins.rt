@@ -115,7 +115,8 @@ fn do_all(mut jobs: Vec<Job>) -> Counts {
     };
     for i in 0..jobs.len() {
         if let Some((ticket, steps)) = jobs.pop() {
-            if let Some(finished) = ticket.done(Outcome::Ok(steps)) {
+            let (given, _) = ticket.done(Outcome::Ok(steps));
+            if let Some(finished) = given {
                 let Parent(parent) = finished.parent;
                 counts = counts.with(Counts {
                     finished: 1,
@@ -185,9 +186,9 @@ fn has_both(finished: Option<Finished<Parent>>) -> bool {
 fn gets_both(earlier: (Ticket<Parent>, Outcome), later: (Ticket<Parent>, Outcome)) -> bool {
     let (first, its_outcome) = earlier;
     let (second, other_outcome) = later;
-    let got_nothing = first.done(its_outcome).is_none();
-    let got_both = has_both(second.done(other_outcome));
-    got_nothing && got_both
+    let (nothing, _) = first.done(its_outcome);
+    let (both, _) = second.done(other_outcome);
+    nothing.is_none() && has_both(both)
 }
 
 // No clause speaks of what was done before with the other ticket.

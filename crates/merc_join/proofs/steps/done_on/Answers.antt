@@ -19,8 +19,8 @@ fetch_sub-found-requires g c = (
   counts g.P.Forked.ends _ _ _ c.args.child _ c.args.outcome _ (held c.args.child c.args.outcome _ _ _ c.requires.seat.1 c.load.ensures.2 c.exchange.ensures.3) c.requires.end,
 )
 
-pub returns : goal.returns
-returns g c =
+pub returns-clause-done : goal.returns-clause-done
+returns-clause-done g c =
     let is = held c.args.child c.args.outcome c.args.seat.now.me c.load.new.seat.me c.exchange.new.seat.me c.requires.seat.1 c.load.ensures.2 c.exchange.ensures.3 in
     let counted' = counted c.args.child c.fetch_sub-found.result c.args.outcome c.args.seat.now.me c.exchange.new.seat.me c.fetch_sub-found.new.seat.me is c.fetch_sub-found.ensures.2 in
     let one : c.fetch_sub-found.result ≡ 1 = search rules in
@@ -29,7 +29,7 @@ returns g c =
     let taken = c.take_outcomes-outcomes.ensures in
     let each : AreOutcomes g.P.Forked.ends c.args.seat.now.me.0.parent c.args.child (Ended c.args.outcome) c.take_outcomes-outcomes.result =
     subst (λ (v : Stub g.row.P.Denot). AreOutcomes g.P.Forked.ends v.parent v.child v.put c.take_outcomes-outcomes.result) view taken.outcomes.1 in (
-      c.take_parent-parent.ensures.seat ∙ (ap (λ (v : Stub g.row.P.Denot). stub v.parent v.child v.many Over v.put c.args.children) taken.seat.1 ∙ ap (λ (v : Stub g.row.P.Denot). stub v.parent v.child v.many Over v.put c.args.children) view),
+      c.take_parent-parent.ensures.seat.1 ∙ (ap (λ (v : Stub g.row.P.Denot). stub v.parent v.child v.many Over v.put c.args.children) taken.seat.1 ∙ ap (λ (v : Stub g.row.P.Denot). stub v.parent v.child v.many Over v.put c.args.children) view),
       record {
         count = taken.outcomes.0;
         each = λ i o got. (each i o got).0;
